@@ -1,0 +1,5 @@
+mod Filling
+mod Outcomes
+mod Rows
+mod Tails
+mod Walks

@@ -1,0 +1,9 @@
+-- `==` on slices, as a test on lists.
+use borrow.Author.Needs.{needs}
+use Rattle.std.proofs.shelf.Equals.{matches-decides, sameBytes-decides}
+use Rattle.dialects.proofs.names.is_same.Needs as need
+
+pub returns : need.returns
+returns c =
+    let same = matches-decides _ _ _ (c .eq .ensures) in
+    search (needs, sameBytes-decides)

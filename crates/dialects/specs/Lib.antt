@@ -1,0 +1,5 @@
+pub mod Dialects
+pub mod Faults
+pub mod Masks
+pub mod Cursors
+pub mod Files
