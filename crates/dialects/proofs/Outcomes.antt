@@ -32,10 +32,13 @@ erased-after tag bytes before after (Err f) err e = e
 pub filled-after : (tag : ℕ) (bytes : List ℕ) (before after : List Part) (o : Result ℕ PatternFault) → isErr o ≡ false → Fills tag bytes before after o →
     After tag bytes before after o
 filled-after tag bytes before after (Err f) ok fills = let z : _≡_ {A = ℕ} 0 1 = cc in absurd (omega arith)
-filled-after tag bytes before after (Ok n) ok fills = λ ps whole.
-    let same : fills .0 ≡ ps = same-patterns tag (fills .0) ps (sym (fills .1) ∙ whole) in
-    let after-is : after ≡ places 0 ps ++ drop n before = fills .5 ∙ ap (λ qs. places 0 qs ++ drop n before) same in
-    let count : length (places 0 ps) ≡ n = length-places 0 ps ∙ sym (fills .4 ∙ ap length same) in (
-      after-is,
-      ap (λ xs. map (part-bytes bytes) (take n xs)) after-is ∙ ap (map (part-bytes bytes)) (take-at (places 0 ps) (drop n before) n count) ∙ places-read tag 0 ps bytes whole,
-    )
+filled-after tag bytes before after (Ok n) ok fills = (
+  omega (arith, fills .3, fills .4),
+  λ ps whole.
+      let same : fills .0 ≡ ps = same-patterns tag (fills .0) ps (sym (fills .1) ∙ whole) in
+      let after-is : after ≡ places 0 ps ++ drop n before = fills .5 ∙ ap (λ qs. places 0 qs ++ drop n before) same in
+      let count : length (places 0 ps) ≡ n = length-places 0 ps ∙ sym (fills .4 ∙ ap length same) in (
+        after-is,
+        ap (λ xs. map (part-bytes bytes) (take n xs)) after-is ∙ ap (map (part-bytes bytes)) (take-at (places 0 ps) (drop n before) n count) ∙ places-read tag 0 ps bytes whole,
+      ),
+)

@@ -80,6 +80,6 @@ Only tag most bytes o = (other : Result ℕ PatternFault) → Outcome tag most b
 -- after a refusal nothing but parts of 0.
 abbrev pub After : (tag : ℕ) (bytes : List ℕ) (before after : List Part) → Result ℕ PatternFault → Type 0
 After tag bytes before after (Ok n) =
-    (ps : List (List ℕ)) → bytes ≡ file tag ps →
-    (after ≡ places 0 ps ++ drop n before) × (map (part-bytes bytes) (take n after) ≡ ps)
+    (n ≤ length before)
+    × ((ps : List (List ℕ)) → bytes ≡ file tag ps → (after ≡ places 0 ps ++ drop n before) × (map (part-bytes bytes) (take n after) ≡ ps))
 After tag bytes before after (Err e) = after ≡ replicate (length before) (part 0 0)
