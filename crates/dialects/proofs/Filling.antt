@@ -14,7 +14,8 @@ use Rattle.std.proofs.shelf.Tests.{leb-false}
 use Rattle.std.specs.declared.option.Option.the-variants.{Some, None}
 use Rattle.std.specs.declared.result.Result.the-variants.{Ok, Err}
 use Rattle.dialects.specs.declared.fault.PatternFault.{PatternFault}
-use Rattle.dialects.specs.Files.{file, Short, places, room, refuses, Fills}
+use Rattle.dialects.specs.Files.{file, Short, places, room, refuses}
+use Rattle.dialects.specs.Reading.{Fills}
 use Rattle.dialects.proofs.Rows.{Good, good-from, good-cut, file-push, short-push, places-push, length-places}
 
 pub record Begun (tag : ℕ) (bytes : List ℕ) (before now : List Part) (count at : ℕ) : Type 0 where

@@ -12,7 +12,8 @@ use Rattle.std.specs.declared.result.Result.{Result}
 use Rattle.std.specs.declared.result.Result.the-variants.{Ok, Err}
 use Rattle.std.proofs.shelf.Lists.{append-nil, take-at}
 use Rattle.dialects.specs.declared.fault.PatternFault.{PatternFault}
-use Rattle.dialects.specs.Files.{file, Short, places, room, Reads-to, Fills, Outcome, After}
+use Rattle.dialects.specs.Files.{file, Short, places, room, Reads-to, Outcome, After}
+use Rattle.dialects.specs.Reading.{Fills}
 use Rattle.dialects.proofs.Rows.{same-patterns, length-places, places-read}
 
 reads-to : (tag : ℕ) (bytes : List ℕ) (before after : List Part) (o : Result ℕ PatternFault) → Fills tag bytes before after o → Reads-to tag (room before) bytes o

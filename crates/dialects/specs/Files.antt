@@ -1,6 +1,6 @@
 -- What a file of patterns is, and what reading it comes to.
 use mathlib.Core.Path.{_≡_}
-use mathlib.Core.Bool.{Bool, true, false, not, cond, _||_}
+use mathlib.Core.Bool.{Bool, not, cond, _||_}
 use mathlib.Core.List.{List, [], _∷_, _++_, map}
 use Prim.Native.Nat.{ℕ, _+_, _<_, _≤_, min}
 use lib.Dec.{leb, ltb, eqb}
@@ -43,11 +43,6 @@ refuses tag full place bytes =
     (cond (ltb (length bytes) (3 + stated-length bytes) || ltb 255 (stated-length bytes)) (Some (WrongLength place))
     (cond full (Some (TooMany place)) None)))
 
--- the length of the pattern that is taken, or what refuses it
-abbrev pub Takes : (tag : ℕ) (full : Bool) (place : ℕ) → List ℕ → Result ℕ PatternFault → Type 0
-Takes tag full place bytes (Ok n) = (refuses tag full place bytes ≡ None) × (n ≡ stated-length bytes)
-Takes tag full place bytes (Err e) = refuses tag full place bytes ≡ Some e
-
 -- reading ends at these bytes, which stand at this place after this many patterns
 abbrev pub Stops : (tag room count place : ℕ) → List ℕ → Result ℕ PatternFault → Type 0
 Stops tag most count place rest (Ok n) = (rest ≡ []) × (n ≡ count)
@@ -61,12 +56,6 @@ pub record Reads-to (tag most : ℕ) (bytes : List ℕ) (o : Result ℕ PatternF
   pub short : Short patterns
   pub fit : length patterns ≤ most
   pub stop : Stops tag most (length patterns) (length (file tag patterns)) rest o
-
--- what has been filled in when reading ends
-abbrev pub Fills : (tag : ℕ) (bytes : List ℕ) (before after : List Part) → Result ℕ PatternFault → Type 0
-Fills tag bytes before after (Ok n) =
-    (ps : List (List ℕ)) × (bytes ≡ file tag ps) × Short ps × (length ps ≤ room before) × (n ≡ length ps) × (after ≡ places 0 ps ++ drop n before)
-Fills tag bytes before after (Err e) = Reads-to tag (room before) bytes (Err e)
 
 -- what reading a file comes to
 abbrev pub Outcome : (tag most : ℕ) → List ℕ → Result ℕ PatternFault → Type 0

@@ -1,5 +1,6 @@
+pub mod Cursors
 pub mod Dialects
 pub mod Faults
-pub mod Masks
-pub mod Cursors
 pub mod Files
+pub mod Masks
+pub mod Reading

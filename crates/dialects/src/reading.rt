@@ -1,10 +1,10 @@
 // Reads the files of patterns.
 ghost use mathlib.Core.Path.{_≡_};
-ghost use mathlib.Core.Bool.{Bool, not};
 ghost use Prim.Native.Nat.{_≤_};
 ghost use lib.ListN.{length, replicate};
 ghost use Rattle.fields.specs.Parts.{part as partOf};
-ghost use Rattle.dialects.specs.Files.{Outcome, Only, After, Fills, Takes, room};
+ghost use Rattle.dialects.specs.Files.{Outcome, Only, After, room};
+ghost use Rattle.dialects.specs.Reading.{Takes, Fills};
 use crate::fault::PatternFault;
 use fields::field::CutShort;
 use fields::field::split_field;
