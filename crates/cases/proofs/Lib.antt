@@ -1,0 +1,7 @@
+mod Splitting
+mod Taking
+mod Numbering
+mod Hexing
+mod Piecing
+mod Showing
+mod Refusing

@@ -1,0 +1,4 @@
+pub mod Expected
+pub mod Bits
+pub mod Lines
+pub mod Runs
