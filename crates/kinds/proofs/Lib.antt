@@ -1,0 +1,6 @@
+mod Decimals
+mod Integers
+mod Puts
+mod Reading
+mod Taking
+mod Wholes

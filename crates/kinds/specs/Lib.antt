@@ -1,0 +1,5 @@
+pub mod Causes
+pub mod Decimals
+pub mod Taking
+pub mod Wholes
+pub mod Writing

@@ -1,0 +1,2 @@
+// Lists of numbers of one kind.
+pub mod numbers;
