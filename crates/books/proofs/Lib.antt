@@ -1,0 +1,5 @@
+mod Needing
+mod Spreads
+mod Cycles
+mod Passing
+mod Keeping

@@ -1,0 +1,5 @@
+pub mod Faults
+pub mod Adding
+pub mod Counting
+pub mod Writing
+pub mod Outcomes

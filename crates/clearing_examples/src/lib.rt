@@ -1,0 +1,5 @@
+// Worked examples of clearing, from a railway.
+#[cfg(test)]
+mod books;
+#[cfg(test)]
+mod limits;

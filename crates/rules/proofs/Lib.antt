@@ -1,0 +1,17 @@
+pub mod Founded
+pub mod Guard
+pub mod Tests
+pub mod Descent
+pub mod Agree
+pub mod Rounds
+pub mod Elsewhere
+pub mod Settle
+pub mod Allow
+pub mod Standing
+pub mod Complement
+pub mod Clearing
+pub mod Turns
+pub mod Tidy
+pub mod Rooted
+pub mod Cleared
+pub mod Examples
