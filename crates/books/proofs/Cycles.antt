@@ -15,7 +15,7 @@ use Rattle.rules.specs.declared.row.Row.the-variants.{False}
 use Rattle.rules.specs.Value.{_∈_, first, later}
 use Rattle.rules.specs.Book.{Book, row-at, body-at, Reach, nothing, inner, both, negated, body, reach, named, called, needed, needs, Needs, direct, through, Guarded}
 use Rattle.rules.proofs.Guard.{then, all-in}
-use Rattle.books.specs.Guard.{book-of, Joined, Lowest, Finds, Reaches, Marked, names, calls, First-call, First-cycle}
+use Rattle.books.specs.Guard.{book-of, Joined, Finds, Reaches, Marked, names, calls, First-call, First-cycle}
 
 -- the first step of a chain of needs
 first-step : (book : Book) (r o : ℕ) → Needs book r o → (m : ℕ) × (m ∈ needs book (row-at book r)) × Reaches book m o

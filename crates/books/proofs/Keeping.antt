@@ -1,6 +1,6 @@
 -- A book passes the tests exactly if it keeps the rules.
 use mathlib.Core.Path.{_≡_, refl, sym, ap, subst, _∙_}
-use mathlib.Core.Bool.{Bool, true, false, not, cond, _&&_}
+use mathlib.Core.Bool.{Bool, true, false, not, _&&_}
 use mathlib.Core.List.{List, [], _∷_}
 use mathlib.Core.Logic.{inl, inr, ⊎-elim}
 use Prim.Native.Nat.{ℕ, zero, suc, _+_, _<_, _≤_}
@@ -9,7 +9,7 @@ use native.Mathlib.Omega.{arith}
 use lib.Dec.{eqb, leb, ltb}
 use lib.ListN.{length, getD}
 use Rattle.std.proofs.shelf.Lists.{getD-default}
-use Rattle.std.proofs.shelf.Tests.{ltb-true, lt-ltb, leb-true, le-leb, eqb-false, ne-eqb, not-true, not-from-false, and-parts, and-from}
+use Rattle.std.proofs.shelf.Tests.{ltb-true, lt-ltb, leb-true, le-leb, eqb-false, ne-eqb, not-true, not-from-false, and-parts, and-from, cases-order}
 use Rattle.std.specs.Results.{andOther, isOk}
 use Rattle.std.specs.declared.option.Option.{Option}
 use Rattle.std.specs.declared.option.Option.the-variants.{Some, None}
@@ -21,6 +21,7 @@ use Rattle.rules.specs.declared.row.Range.{Range}
 use Rattle.rules.specs.declared.row.Row.{Row}
 use Rattle.rules.specs.declared.row.Row.the-variants.{True, False, OfType, BooleanIs, Pattern, NotPattern, Length, Between, StrictlyBetween, Multiple, NotMultiple, EveryMember, SomeMember, Members, EveryElement, SomeElement, Count, And, Or, Not, Variable}
 use Rattle.books.specs.declared.fault.BookFault.{BookFault}
+use Rattle.books.specs.declared.fault.BookFault.the-variants.{Unguarded}
 use Rattle.books.specs.Guard.{Joined, Lowest}
 use Rattle.books.specs.Tests.{Tested, passes, ask, short-of, is-ended, is-there, row-fits, row-above, row-test, counted-row, definition-test, call-test, variable-test, first-refused}
 use Rattle.books.specs.Sealing.{plain-test, counts, Comes-to, Seals}
@@ -267,9 +268,31 @@ module _ (limits : Limits) (book : Book) where
   pub passed-joined : passes ≡ plain-test limits book → Joined book
   passed-joined h = kept-joined (kept-from (sym h))
 
-  -- and is sealed if it is guarded
+  -- but a row may need itself
+  pub unguarded-at : (r : ℕ) → passes ≡ plain-test limits book → Lowest book r → Comes-to limits book (Err (Unguarded r)) × Seals limits book (Err (Unguarded r))
+  unguarded-at r h lowest = (inr (sym h, (r, refl, lowest)), λ s. s .guarded r (lowest .there) (lowest .itself))
+
+  -- and it is sealed if none does
   pub sealed-by : passes ≡ plain-test limits book → Guarded book → Comes-to limits book (Ok tt) × Seals limits book (Ok tt)
   sealed-by h guarded = ((sym h, guarded), kept-sealed (kept-from (sym h)) guarded)
+
+lowest-one : (book : Book) (r s : ℕ) → Lowest book r → Lowest book s → r ≡ s
+lowest-one book r s a b = ⊎-elim (λ (e : r ≡ s). e)
+    (⊎-elim (λ (lt : r < s). absurd (b .before r lt (a .itself))) (λ (gt : s < r). absurd (a .before s gt (b .itself))))
+    (cases-order r s)
+
+-- a test has one outcome
+pub only-one : (limits : Limits) (book : Book) (r other : Tested) → Comes-to limits book r → Comes-to limits book other → other ≡ r
+only-one limits book (Ok u) (Ok v) a b = refl
+only-one limits book (Ok u) (Err e) a (inl h) = refused-passes e (sym h ∙ a .0)
+only-one limits book (Ok u) (Err e) a (inr h) = absurd (a .1 (h .1 .0) (h .1 .2 .there) (h .1 .2 .itself))
+only-one limits book (Err e) (Ok v) (inl h) b = refused-passes e (sym h ∙ b .0)
+only-one limits book (Err e) (Ok v) (inr h) b = absurd (b .1 (h .1 .0) (h .1 .2 .there) (h .1 .2 .itself))
+only-one limits book (Err e) (Err f) (inl h) (inl k) = sym k ∙ h
+only-one limits book (Err e) (Err f) (inl h) (inr k) = refused-passes e (sym h ∙ k .0)
+only-one limits book (Err e) (Err f) (inr h) (inl k) = refused-passes f (sym k ∙ h .0)
+only-one limits book (Err e) (Err f) (inr h) (inr k) =
+    ap Err (k .1 .1 ∙ ap Unguarded (lowest-one book (k .1 .0) (h .1 .0) (k .1 .2) (h .1 .2)) ∙ sym (h .1 .1))
 
 is-passed : (t : Tested) → isOk t ≡ true → t ≡ passes
 is-passed (Ok u) h = refl

@@ -1,5 +1,5 @@
-mod Needing
-mod Spreads
-mod Cycles
-mod Passing
-mod Keeping
+pub mod Needing
+pub mod Spreads
+pub mod Cycles
+pub mod Passing
+pub mod Keeping

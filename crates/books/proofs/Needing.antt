@@ -1,18 +1,15 @@
 -- What rows directly need.
-use mathlib.Core.Path.{_≡_, refl, sym, ap, subst, _∙_}
-use mathlib.Core.Bool.{Bool, true, false}
-use mathlib.Core.List.{List, [], _∷_}
-use mathlib.Core.Logic.{_⊎_, inl, inr, ⊎-elim}
-use Prim.Native.Nat.{ℕ, zero, suc, _<_, _≤_}
+use mathlib.Core.Path.{_≡_, refl, ap, subst, _∙_}
+use mathlib.Core.List.{List, []}
+use Prim.Native.Nat.{ℕ, _<_}
 use native.Mathlib.Omega.{arith}
 use lib.ListN.{length, getD}
 use Rattle.std.specs.shelf.Lists.{All}
 use Rattle.std.proofs.shelf.Lists.{getD-default}
-use Rattle.rules.specs.Value.{_∈_, first, later}
-use Rattle.rules.specs.Book.{Book, row-at, body-at, Reach, nothing, inner, both, negated, body, reach, named, called, needed, operands, variables, needs, Needs, direct, through}
+use Rattle.rules.specs.Book.{Book, row-at, body-at, Reach, nothing, inner, both, negated, body, reach, named, called, needed, variables, needs}
 use Rattle.rules.specs.declared.row.Row.{Row}
 use Rattle.rules.specs.declared.row.Row.the-variants.{True, False, OfType, BooleanIs, Pattern, NotPattern, Length, Between, StrictlyBetween, Multiple, NotMultiple, EveryMember, SomeMember, Members, EveryElement, SomeElement, Count, And, Or, Not, Variable}
-use Rattle.books.specs.Guard.{book-of, Joined}
+use Rattle.books.specs.Guard.{Joined}
 
 -- a row of no other kind needs nothing
 pub needs-nothing : (book : Book) (row : Row) → ((a b : ℕ) → row ≡ And a b → ⊥) → ((a b : ℕ) → row ≡ Or a b → ⊥) → ((o : ℕ) → row ≡ Not o → ⊥) →

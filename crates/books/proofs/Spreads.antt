@@ -6,12 +6,12 @@ use mathlib.Core.Logic.{_⊎_, _≢_, inl, inr, ⊎-elim}
 use Prim.Native.Nat.{ℕ, zero, suc, _+_, _-_, _<_, _≤_}
 use native.Mathlib.Omega.{arith}
 use lib.ListN.{length, getD, set, replicate}
-use Rattle.std.specs.shelf.Lists.{All, sumBy}
+use Rattle.std.specs.shelf.Lists.{All}
 use Rattle.std.proofs.shelf.Lists.{append-nil, length-set, getD-set-same, getD-set-other, getD-past}
 use Rattle.std.proofs.shelf.Sums.{sumBy-set, sumBy-le, getD-le-sumBy}
 use Rattle.std.proofs.shelf.Tests.{cases-bool, cases-eq, cases-lt, both-ways}
 use Rattle.rules.specs.Value.{_∈_, first, later}
-use Rattle.rules.specs.Book.{Book, row-at, body-at, needs, Needs, direct, through}
+use Rattle.rules.specs.Book.{Book, row-at, needs, Needs, direct}
 use Rattle.rules.proofs.Guard.{then, closed-holds, all-in, all-each}
 use Rattle.std.specs.declared.option.Option.{Option}
 use Rattle.std.specs.declared.option.Option.the-variants.{Some, None}

@@ -1,16 +1,13 @@
 -- What testing a whole book comes to.
 use mathlib.Core.Path.{_≡_}
-use mathlib.Core.Bool.{Bool, true, false, not}
-use mathlib.Core.List.{List}
+use mathlib.Core.Bool.{true, not}
 use mathlib.Core.Logic.{_⊎_}
-use Prim.Native.Nat.{ℕ, _<_, _≤_}
-use lib.Dec.{eqb, leb, ltb}
+use Prim.Native.Nat.{ℕ}
+use lib.Dec.{eqb, leb}
 use lib.ListN.{length}
 use Rattle.std.specs.Results.{andOther}
-use Rattle.std.specs.declared.result.Result.{Result}
 use Rattle.std.specs.declared.result.Result.the-variants.{Ok, Err}
 use Rattle.rules.specs.Book.{Book, Limits, Guarded, Sealed}
-use Rattle.books.specs.declared.fault.BookFault.{BookFault}
 use Rattle.books.specs.declared.fault.BookFault.the-variants.{NoDefinition, TooMany, Unguarded}
 use Rattle.books.specs.Guard.{Lowest}
 use Rattle.books.specs.Tests.{Tested, passes, ask, counted-row, definition-test, variable-test, first-refused}
@@ -34,6 +31,10 @@ abbrev pub Comes-to : Limits → Book → Tested → Type 0
 Comes-to limits book (Ok u) = (plain-test limits book ≡ passes) × Guarded book
 Comes-to limits book (Err e) =
     (plain-test limits book ≡ Err e) ⊎ ((plain-test limits book ≡ passes) × ((r : ℕ) × (e ≡ Unguarded r) × Lowest book r))
+
+-- nothing else comes of testing it
+abbrev pub Only : Limits → Book → Tested → Type 0
+Only limits book r = (other : Tested) → Comes-to limits book other → other ≡ r
 
 -- the books that pass are those that keep all the rules of a sealed one
 abbrev pub Seals : Limits → Book → Tested → Type 0

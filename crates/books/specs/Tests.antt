@@ -1,22 +1,19 @@
 -- What each row and each definition is tested for, and by which fault it is refused.
-use mathlib.Core.Path.{_≡_}
-use mathlib.Core.Bool.{Bool, true, false, cond, _&&_}
+use mathlib.Core.Bool.{Bool, true, cond, _&&_}
 use mathlib.Core.List.{List, [], _∷_}
-use Prim.Native.Nat.{ℕ, _+_, _<_, _≤_}
-use lib.Dec.{eqb, leb, ltb}
-use lib.ListN.{length}
+use Prim.Native.Nat.{ℕ, _+_}
+use lib.Dec.{leb, ltb}
 use Rattle.std.specs.Results.{andOther}
 use Rattle.std.specs.declared.option.Option.{Option}
 use Rattle.std.specs.declared.option.Option.the-variants.{Some, None}
 use Rattle.std.specs.declared.result.Result.{Result}
 use Rattle.std.specs.declared.result.Result.the-variants.{Ok, Err}
-use Rattle.rules.specs.Book.{Book, Limits, Reach, nothing, inner, both, negated, body, reach, row-at}
-use Rattle.rules.specs.declared.row.Bounds.{Bounds}
+use Rattle.rules.specs.Book.{Limits, Reach, nothing, inner, both, negated, body, reach}
 use Rattle.rules.specs.declared.row.Range.{Range}
 use Rattle.rules.specs.declared.row.Row.{Row}
 use Rattle.rules.specs.declared.row.Row.the-variants.{True, False, OfType, BooleanIs, Pattern, NotPattern, Length, Between, StrictlyBetween, Multiple, NotMultiple, EveryMember, SomeMember, Members, EveryElement, SomeElement, Count, And, Or, Not, Variable}
 use Rattle.books.specs.declared.fault.BookFault.{BookFault}
-use Rattle.books.specs.declared.fault.BookFault.the-variants.{NotAllowed, NotAboveZero, Missing, NoDefinition, TooMany}
+use Rattle.books.specs.declared.fault.BookFault.the-variants.{NotAllowed, NotAboveZero, Missing, TooMany}
 
 -- an upper end is at most 65,534
 abbrev pub short-of : Option ℕ → Bool

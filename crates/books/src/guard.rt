@@ -1,10 +1,10 @@
 // Finds the lowest row that needs itself.
 ghost use mathlib.Core.Path.{_≡_};
-ghost use mathlib.Core.Bool.{Bool, true, false};
-ghost use mathlib.Core.List.{List, []};
-ghost use Prim.Native.Nat.{ℕ, _+_, _<_, _≤_};
-ghost use lib.ListN.{length, getD};
-ghost use Rattle.rules.specs.Book.{needs, variables, row-at as rowAt};
+ghost use mathlib.Core.Bool.{true, false};
+ghost use mathlib.Core.List.{List};
+ghost use Prim.Native.Nat.{_+_, _<_, _≤_};
+ghost use lib.ListN.{length};
+ghost use Rattle.rules.specs.Book.{needs, variables};
 ghost use Rattle.std.specs.shelf.Lists.{All};
 ghost use Rattle.books.specs.Guard.{book-of as bookOf, if-there as ifThere, listed, calls as callsBy, Joined, Marked, First-call, First-cycle, Finds};
 ghost use Rattle.books.specs.Spread.{work, visit as visited, visit-all as visitAll, Room, Every-room, Blank};

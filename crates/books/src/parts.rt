@@ -1,10 +1,6 @@
 // Tests the parts of a book one by one: its rows, its definitions and its variables.
 ghost use mathlib.Core.Path.{_≡_};
-ghost use mathlib.Core.Bool.{Bool};
-ghost use mathlib.Core.List.{List};
 ghost use Prim.Native.Nat.{_<_};
-ghost use lib.ListN.{length};
-ghost use Rattle.numbers.specs.Kinds.{above-zero as aboveZero};
 ghost use Rattle.rules.specs.Book.{number-at as numberAt, limits-of as limitsOf, operands, variables};
 ghost use Rattle.books.specs.Tests.{is-ended as isEnded, is-there as isThere, row-fits as rowFits, row-above as rowAbove, row-test as rowTest, variable-test as variableTest, definition-test as definitionTest, counted-row as countedRow, first-refused as firstRefused};
 use crate::fault::BookFault;

@@ -1,10 +1,9 @@
 // Tests whole books, and seals them.
 ghost use mathlib.Core.Path.{_≡_};
 ghost use Prim.Native.Nat.{_<_};
-ghost use lib.ListN.{length};
 ghost use Rattle.rules.specs.Book.{limits-of as limitsOf};
 ghost use Rattle.books.specs.Guard.{book-of as bookOf};
-ghost use Rattle.books.specs.Sealing.{plain-test as plainTest, Comes-to, Seals};
+ghost use Rattle.books.specs.Sealing.{plain-test as plainTest, Comes-to, Only, Seals};
 use crate::fault::BookFault;
 use crate::guard::lowest_cycle;
 use crate::limits::MOST_NUMBERS;
@@ -42,6 +41,7 @@ pub fn test_book<K: Number>(
     patterns: usize,
 ) -> Result<(), BookFault>
     ensures comes { λ r. ⌜ Comes-to (limitsOf (K·Number .kind) patterns (now (numbers .entry))) (bookOf (now (rows .entry)) (now (definitions .entry))) r ⌝ }
+    ensures only { λ r. ⌜ Only (limitsOf (K·Number .kind) patterns (now (numbers .entry))) (bookOf (now (rows .entry)) (now (definitions .entry))) r ⌝ }
     ensures seals { λ r. ⌜ Seals (limitsOf (K·Number .kind) patterns (now (numbers .entry))) (bookOf (now (rows .entry)) (now (definitions .entry))) r ⌝ }
 {
     test_parts(rows, definitions, numbers, patterns)?;

@@ -1,7 +1,7 @@
 -- The ten bytes of fields: what is written is read, and nothing else.
 use mathlib.Core.Path.{_≡_, refl, sym, ap, _∙_}
 use mathlib.Core.Bool.{Bool, true, false, cond, _&&_}
-use mathlib.Core.List.{List, [], _∷_, map}
+use mathlib.Core.List.{List, [], _∷_}
 use mathlib.Core.Logic.{⊎-elim, _⊎_, inl, inr}
 use Prim.Native.Nat.{ℕ, _+_, _*_, _/_, _%_, _<_}
 use native.Mathlib.Omega.{arith}
@@ -13,7 +13,7 @@ use Rattle.std.specs.declared.option.Option.{Option}
 use Rattle.std.specs.declared.option.Option.the-variants.{Some, None}
 use Rattle.rows.specs.declared.fields.Ends.{Ends}
 use Rattle.rows.specs.declared.fields.Fields.{Fields}
-use Rattle.rows.specs.Fields.{ends, fields, bit, held, present, bytes-of, ends-from, Reads-fields}
+use Rattle.rows.specs.Fields.{ends, fields, held, present, bytes-of, ends-from}
 
 -- a test that passed, or did not
 cond-some : {A : Type 0} (b : Bool) (x y : A) (rest : Option A) → cond b (Some x) rest ≡ Some y → ((b ≡ true) × (x ≡ y)) ⊎ (rest ≡ Some y)

@@ -2,10 +2,10 @@
 use mathlib.Core.Path.{_≡_, refl, sym, ap, subst, _∙_}
 use mathlib.Core.Bool.{Bool, true, false, not, cond, _&&_}
 use mathlib.Core.List.{List, [], _∷_}
-use Prim.Native.Nat.{ℕ, zero, suc, _+_, _*_, _/_, _%_, _<_, _≤_}
+use Prim.Native.Nat.{ℕ, zero, suc, _/_, _<_, _≤_}
 use native.Mathlib.Omega.{arith}
 use lib.Dec.{eqb}
-use lib.ListN.{length, getD}
+use lib.ListN.{getD}
 use Rattle.std.proofs.shelf.Tests.{eqb-true, eqb-false, ne-eqb, and-parts}
 use Rattle.std.specs.Options.{isSome, mapped, flattened, whenTrue}
 use Rattle.std.specs.declared.option.Option.{Option}
@@ -21,7 +21,7 @@ use Rattle.rules.specs.declared.row.ValueType.{ValueType}
 use Rattle.rules.specs.declared.row.ValueType.the-variants.{Null, Boolean, Number, Text, List as Listed, Object}
 use Rattle.rows.specs.declared.fields.Ends.{Ends}
 use Rattle.rows.specs.declared.fields.Fields.{Fields}
-use Rattle.rows.specs.Fields.{ends, fields, held, bytes-of, ends-from, Reads-fields}
+use Rattle.rows.specs.Fields.{ends, fields, held, bytes-of}
 use Rattle.rows.specs.Rows.{no-ends, range-ends, bounds-ends, fields-of, row-bytes, Well-ended, Reads-row, types, booleans, unended, up-to, range-from, range-between, alone, first-alone, second-alone, pair-alone, range-alone, bounds-alone, range-and-second, readers, row-from}
 use Rattle.rows.proofs.Bytes.{same-fields, same-bytes}
 

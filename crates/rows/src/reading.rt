@@ -1,6 +1,5 @@
 // Reads a row from its ten bytes.
 ghost use mathlib.Core.Path.{_≡_};
-ghost use mathlib.Core.Bool.{Bool};
 ghost use Rattle.std.specs.shelf.Maps.{nth};
 ghost use Rattle.rows.specs.Rows.{Reads-row, row-of as rowOf, row-from as rowFrom, types, booleans, unended, alone as aloneFrom, first-alone as firstAlone, second-alone as secondAlone, range-from as rangeFrom, range-alone as rangeAlone, bounds-alone as boundsAlone};
 use crate::fields::Ends;

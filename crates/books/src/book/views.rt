@@ -1,6 +1,5 @@
 // Seals books, and looks at their parts.
 ghost use mathlib.Core.Path.{_≡_};
-ghost use mathlib.Core.List.{List, [], _∷_};
 ghost use lib.ListN.{length};
 ghost use Rattle.rules.specs.Book.{limits-of as limitsOf, Sealed};
 ghost use Rattle.books.specs.Guard.{book-of as bookOf};
@@ -30,6 +29,7 @@ impl<'a> Book<'a> {
     }
 
     // Seals rows and definitions that pass the test; of any others it makes the book that accepts nothing.
+    // So what it makes is a sealed book always.
     pub fn seal<K: Number>(
         rows: &'a [Row],
         definitions: &'a [u16],
@@ -38,6 +38,7 @@ impl<'a> Book<'a> {
     ) -> Book<'a>
         ensures same { λ b. ⌜ (Sealed (limitsOf (K·Number .kind) patterns (now (numbers .entry))) (bookOf (now (rows .entry)) (now (definitions .entry))) → Views b (now (rows .entry)) (now (definitions .entry)) (length (now (numbers .entry))) patterns) ⌝ }
         ensures nothing { λ b. ⌜ ((Sealed (limitsOf (K·Number .kind) patterns (now (numbers .entry))) (bookOf (now (rows .entry)) (now (definitions .entry))) → ⊥) → Nothing b) ⌝ }
+        ensures sealed { λ b. ⌜ Sealed (counts (b .patterns) (b .numbers)) (bookOf (now (b .rows)) (now (b .definitions))) ⌝ }
     {
         if let Err(_) = test_book(rows, definitions, numbers, patterns) {
             return Book::accepting_nothing();
@@ -50,10 +51,9 @@ impl<'a> Book<'a> {
         }
     }
 
-    // The rows. A view is always of a sealed book.
+    // The rows.
     pub fn rows(&self) -> &'a [Row]
-        ensures is { λ r. ⌜ now r ≡ now (now (self .entry) .rows) ⌝ }
-        ensures sealed { λ _. ⌜ Sealed (counts (now (self .entry) .patterns) (now (self .entry) .numbers)) (bookOf (now (now (self .entry) .rows)) (now (now (self .entry) .definitions))) ⌝ }
+        ensures { λ r. ⌜ now r ≡ now (now (self .entry) .rows) ⌝ }
     {
         self.rows
     }

@@ -1,5 +1,5 @@
 -- Each kind of row needs what the code lists.
-use mathlib.Core.Path.{_≡_, refl, sym, ap, _∙_}
+use mathlib.Core.Path.{refl}
 use borrow.Author.Needs.{needs}
 use native.Mathlib.Omega.{arith}
 use Rattle.books.specs.Guard.{book-of}

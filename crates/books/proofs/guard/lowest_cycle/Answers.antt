@@ -1,7 +1,6 @@
 -- One more definition.
-use mathlib.Core.Path.{_≡_, refl, sym, ap, subst, _∙_}
+use mathlib.Core.Path.{sym, subst}
 use Prim.Native.Nat.{_+_}
-use native.Mathlib.Omega.{arith}
 use borrow.Author.Needs.{needs}
 use Rattle.books.specs.Guard.{book-of}
 use Rattle.books.proofs.Cycles.{Best, next-best, found-lowest, none-found}

@@ -1,7 +1,5 @@
 -- What is marked is reached from the body.
-use mathlib.Core.Path.{_≡_, refl, sym, ap, subst, _∙_}
 use native.Mathlib.Omega.{arith}
-use borrow.Author.Needs.{needs}
 use Rattle.books.specs.Guard.{book-of}
 use Rattle.books.proofs.Cycles.{first-cycle}
 use Rattle.books.proofs.Spreads.{blank}

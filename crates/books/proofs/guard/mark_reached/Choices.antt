@@ -1,7 +1,6 @@
 -- Marks spread from the start.
-use Prim.Native.Nat.{ℕ}
 use mathlib.Core.List.{[]}
-use Rattle.books.specs.Guard.{book-of, Joined}
+use Rattle.books.specs.Guard.{book-of}
 use Rattle.books.specs.Spread.{work, left, Spreading}
 use Rattle.books.proofs.guard.mark_reached.Given as given
 

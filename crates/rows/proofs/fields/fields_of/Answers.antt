@@ -1,7 +1,7 @@
 -- The fields that were read are those that the bytes hold.
 use borrow.Author.Needs.{needs}
 use native.Mathlib.Omega.{arith}
-use mathlib.Core.Path.{refl, sym}
+use mathlib.Core.Path.{refl}
 use Rattle.rows.proofs.Bytes.{fields-written, ends-written}
 use Rattle.rows.proofs.fields.fields_of.Needs as need
 

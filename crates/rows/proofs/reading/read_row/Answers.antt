@@ -1,5 +1,4 @@
 -- The row that was read is the one whose bytes these are.
-use borrow.Author.Needs.{needs}
 use native.Mathlib.Omega.{arith}
 use mathlib.Core.Path.{ap, _∙_}
 use Rattle.rows.specs.Rows.{row-from-any}

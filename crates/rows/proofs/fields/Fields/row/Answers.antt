@@ -1,5 +1,4 @@
 -- The answer at operator 2.
-use borrow.Author.Needs.{needs}
 use Rattle.rows.proofs.fields.Fields.row.Needs as need
 
 pub returns-in-2 : need.returns-in-2
