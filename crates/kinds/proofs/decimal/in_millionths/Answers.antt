@@ -20,7 +20,7 @@ overflow-add-result c =
 
 pub returns : goal.returns
 returns c =
-    let part = scaled c.args.places.now c.number-of-2.result c.pow-scale.result c.requires.1 c.requires.3 c.number-of-2.ensures c.pow-scale.ensures in
+    let part = scaled c.args.places.now c.number_of-2.result c.pow-scale.result c.requires.1 c.requires.3 c.number_of-2.ensures c.pow-scale.ensures in
     record {
       is = omega (arith, c.number_of.ensures, part.0);
       small = omega (arith, c.number_of.ensures, int_small c.args.int.now c.requires.0 c.requires.2, part.1);

@@ -8,7 +8,7 @@ returns c =
     let x = c.args.x in
     let q = c.args.q in
     let told =
-    c.divides-evenly.ensures
-    ∙ by_magnitudes x q _ _ (c.unsigned-abs.ensures.value ∙ ap nat_abs (to_z-of_z w64 x c.ranges.x))
-    (c.unsigned-abs-2.ensures.value ∙ ap nat_abs (to_z-of_z w64 q c.ranges.q)) in
+    c.divides_evenly.ensures
+    ∙ by_magnitudes x q _ _ (c.unsigned_abs.ensures.value ∙ ap nat_abs (to_z-of_z w64 x c.ranges.x))
+    (c.unsigned_abs-2.ensures.value ∙ ap nat_abs (to_z-of_z w64 q c.ranges.q)) in
     record { is = told; times = times_told x q _ told }

@@ -6,7 +6,7 @@ pub returns-then-not-is-digit : goal.returns-then-not-is-digit
 returns-then-not-is-digit c = counted_stop c.args.bytes.now c.loop-i.i c.loop-i-test.true (sym c.if-not-is-digit.ensures) c.loop-i.invariant
 
 pub loop-i-preserved : goal.loop-i-preserved
-loop-i-preserved c = counted_more c.args.bytes.now c.loop-i.i c.loop-i-test.true (sym c.if-not-is-digit.ensures) c.loop-i.invariant
+loop-i-preserved c = counted_more c.args.bytes.now c.loop-i.i c.loop-i-test.true (sym c.if-not-is_digit.ensures) c.loop-i.invariant
 
 pub returns : goal.returns
 returns c = omega (arith, counted_all c.args.bytes.now c.loop-i.i c.loop-i-test.false c.loop-i.invariant)

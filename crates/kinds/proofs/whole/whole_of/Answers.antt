@@ -5,10 +5,10 @@ use Rattle.kinds.proofs.whole.whole_of.Goals.{then-plain-gt0-via-then-plain-gt0,
 
 pub returns-then-plain-gt0 : goal.returns-then-plain-gt0
 returns-then-plain-gt0 c =
-    let p = c.in-ok-plain.plain in
+    let p = c.in_ok-plain.plain in
     elim c.then-plain-gt0.branch [
-      | then-plain-gt0-via-then-plain-gt0 w ↦ has_places c.args.token.now p.minus p.int.now p.places.now c.in-ok-plain.ensures w.if-plain-gt0.true
-      | then-plain-gt0-via-else-plain-gt0+then-plain-gt16 w ↦ is_long c.args.token.now p.minus p.int.now p.places.now c.in-ok-plain.ensures w.if-plain-gt16.true
+      | then-plain-gt0-via-then-plain-gt0 w ↦ has_places c.args.token.now p.minus p.int.now p.places.now c.in_ok-plain.ensures w.if-plain-gt0.true
+      | then-plain-gt0-via-else-plain-gt0+then-plain-gt16 w ↦ is_long c.args.token.now p.minus p.int.now p.places.now c.in_ok-plain.ensures w.if-plain-gt16.true
     ]
 
 pub number-of-magnitude-requires : goal.number-of-magnitude-requires

@@ -27,7 +27,7 @@ put-bytes-requires c =
 
 pub returns : goal.returns
 returns c =
-    fraction_put c.args.count c.args.part c.args.out.now c.put-bytes.new.out _ c.args.at c.put-bytes.result (omega arith)
+    fraction_put c.args.count c.args.part c.args.out.now c.put_bytes.new.out _ c.args.at c.put_bytes.result (omega arith)
     (omega (arith, c.requires, length_fraction c.args.count c.args.part (omega arith)))
-    (ap (λ k. take k c.last-digits-digits.result) (omega (arith, c.from.ensures, c.min-places.ensures)) ∙ ap (take (min c.args.count 6)) c.last-digits-digits.ensures)
-    c.put-bytes.ensures
+    (ap (λ k. take k c.last_digits-digits.result) (omega (arith, c.from.ensures, c.min-places.ensures)) ∙ ap (take (min c.args.count 6)) c.last_digits-digits.ensures)
+    c.put_bytes.ensures

@@ -10,5 +10,5 @@ returns c =
     let q = c.args.other.millionths in
     let x_fits : SFits w64 x = search rules in
     let q-fits : SFits w64 q = search rules in
-    let told : c.is-multiple.result ≡ divides x q = simp to_z-of_z at c.is-multiple.ensures.is in
+    let told : c.is_multiple.result ≡ divides x q = simp to_z-of_z at c.is_multiple.ensures.is in
     record { is = told; times = times_told x q _ told }

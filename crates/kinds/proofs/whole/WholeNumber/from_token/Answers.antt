@@ -8,7 +8,7 @@ use Rattle.kinds.proofs.whole.WholeNumber.from_token.Goals as goal
 
 pub returns : goal.returns
 returns c = record {
-  is = c.whole-of.ensures;
-  means = held_reads whole a_whole value MeansWhole (λ z. refl) whole_reads c.args.token.now c.whole-of.result c.whole-of.ensures;
-  kept = held_keeps whole a_whole value (λ z. refl) whole_keeps c.args.token.now c.whole-of.result c.whole-of.ensures;
+  is = c.whole_of.ensures;
+  means = held_reads whole a_whole value MeansWhole (λ z. refl) whole_reads c.args.token.now c.whole_of.result c.whole_of.ensures;
+  kept = held_keeps whole a_whole value (λ z. refl) whole_keeps c.args.token.now c.whole_of.result c.whole_of.ensures;
 }
