@@ -1,7 +1,7 @@
 -- Rule books: which rows a row names and which it needs, and what a sealed book is.
 use Rattle.std.specs.Prelude.{◌≡◌, ℕ, ◌%◌, ◌<◌, ◌≤◌, Bool, true, List, [], ◌∷◌, length, Some, None, Option, ◌≢◌, slice_index, slice_index_or}
 use Rattle.std.specs.List.{AllByRecursion as All}
-use Rattle.numbers.specs.Kinds.{Kind, above_zero as is-above-zero}
+use Rattle.numbers.specs.Kinds.{Kind, above_zero as is_above_zero}
 use Rattle.rules.specs.Value.{◌∈◌}
 use Rattle.rules.specs.declared.row.Range.{Range}
 use Rattle.rules.specs.declared.row.Bounds.{Bounds}
@@ -108,7 +108,7 @@ abbrev pub limits_of : {K : Type 0} → Kind K → ℕ → List K → Limits
 limits_of kind patterns numbers = record {
   patterns = patterns;
   numbers = length numbers;
-  above_zero = λ i. is-above-zero kind (number_at kind numbers i);
+  above_zero = λ i. is_above_zero kind (number_at kind numbers i);
 }
 
 abbrev pub IfThere : {A : Type 0} → Option A → (A → Type 0) → Type 0
