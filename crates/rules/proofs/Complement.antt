@@ -201,10 +201,10 @@ module _ {K : Type 0} (world : World K) (book : Book) (V : Verdicts) (n : ℕ)
         (λ x. sym (not_and (leb range.lower (size x)) (passes range.upper (λ u. leb (size x) u)))) follow
 
   -- an operator on numbers: `back` passes the turned comparison where `ok` does not pass
-  module _ (turns : (x y : K) → world.kind.compare y x ≡ turned (world.kind.compare x y)) (s : ℕ) (row back-row : Bounds → Row) (ok back : Ordering → Bool)
+  module _ (turns : (x y : K) → world.kind.compare y x ≡ turned (world.kind.compare x y)) (s : ℕ) (row back_row : Bounds → Row) (ok back : Ordering → Bool)
       (opposite : (o : Ordering) → back (turned o) ≡ not (ok o))
       (e : (bounds : Bounds) → says world book V (row bounds) n ≡ passes (as_number (value_at world n)) (in_bounds world.kind world.numbers ok bounds))
-      (eb : (bounds : Bounds) → says world book V (back-row bounds) n ≡ passes (as_number (value_at world n)) (in_bounds world.kind world.numbers back bounds)) where
+      (eb : (bounds : Bounds) → says world book V (back_row bounds) n ≡ passes (as_number (value_at world n)) (in_bounds world.kind world.numbers back bounds)) where
     view : Option K
     view = as_number (value_at world n)
 
@@ -212,18 +212,18 @@ module _ {K : Type 0} (world : World K) (book : Book) (V : Verdicts) (n : ℕ)
     swap x y = ap back (turns x y) ∙ opposite (world.kind.compare x y)
 
     under_side : (l : Option ℕ) (bounds : Bounds) → Side Number (as_number (value_at world n)) (is_number (value_at world n)) s (row bounds) (in_bounds world.kind world.numbers ok bounds) (e bounds)
-        (side back-row (under l)) (λ x. not (passes l (λ i. ok (world.kind.compare (number_at world.kind world.numbers i) x))))
+        (side back_row (under l)) (λ x. not (passes l (λ i. ok (world.kind.compare (number_at world.kind world.numbers i) x))))
     under_side None bounds = λ x. refl
     under_side (Some i) bounds = eb (record { lower = None; upper = Some i }) ∙ passes_same (as_number (value_at world n)) _ _ (always (as_number (value_at world n)) _ (λ x. swap (number_at world.kind world.numbers i) x))
 
     over_side : (u : Option ℕ) (bounds : Bounds) → Side Number (as_number (value_at world n)) (is_number (value_at world n)) s (row bounds) (in_bounds world.kind world.numbers ok bounds) (e bounds)
-        (side back-row (over u)) (λ x. not (passes u (λ i. ok (world.kind.compare x (number_at world.kind world.numbers i)))))
+        (side back_row (over u)) (λ x. not (passes u (λ i. ok (world.kind.compare x (number_at world.kind world.numbers i)))))
     over_side None bounds = λ x. refl
     over_side (Some i) bounds = eb (record { lower = Some i; upper = None })
         ∙ passes_same (as_number (value_at world n)) _ _ (always (as_number (value_at world n)) _ (λ x. and_true (back (world.kind.compare (number_at world.kind world.numbers i) x)) ∙ swap x (number_at world.kind world.numbers i)))
 
-    bounds_fits : (bounds : Bounds) → Follow s (around_bounds s row back-row bounds).rows →
-        Fits (around_bounds s row back-row bounds) (passes (as_number (value_at world n)) (in_bounds world.kind world.numbers ok bounds))
+    bounds_fits : (bounds : Bounds) → Follow s (around_bounds s row back_row bounds).rows →
+        Fits (around_bounds s row back_row bounds) (passes (as_number (value_at world n)) (in_bounds world.kind world.numbers ok bounds))
     bounds_fits bounds follow =
         outside_fits Number (as_number (value_at world n)) (is_number (value_at world n)) s (row bounds) (in_bounds world.kind world.numbers ok bounds) (e bounds) _ _ _ _
         (under_side bounds.lower bounds) (over_side bounds.upper bounds)
