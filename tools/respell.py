@@ -12,7 +12,7 @@ import glob
 import re
 import sys
 
-DELIMITERS = " \t\n(){}[],.;"
+RECURSIVE = "AllByRecursion as All"
 SPECIAL = {"Digit1-9": "DigitOneToNine"}
 # what the kit's script left half turned, and the names that bind a value or a module in one place
 MORE = {
@@ -104,6 +104,10 @@ def main():
         with open(path, encoding="utf-8") as f:
             text = f.read()
         here = dict(names)
+        if RECURSIVE in text:
+            # `All` is kept for the library's own, which goes by index
+            text = text.replace(RECURSIVE, "AllByRecursion")
+            here["All"] = "AllByRecursion"
         if path.endswith(".rt"):
             for m in ALIAS.finditer("\n".join(l for l in text.splitlines() if l.lstrip().startswith("ghost use "))):
                 here[m.group(2)] = snake(m.group(2))
