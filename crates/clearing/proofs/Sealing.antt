@@ -64,8 +64,8 @@ seals book before after (Ok n) o limits sealed =
       short = omega (arith, o.counted, well.short);
       doubled = well.doubled;
     }
-seals book before after (Err TooManyRows) (no-fit, _) limits sealed = no-fit (clearable limits book sealed)
-seals book before after (Err TooManyDefinitions) (_, rows, no-fit, _) limits sealed = (rows, no-fit)
+seals book before after (Err TooManyRows) (no_fit, _) limits sealed = no_fit (clearable limits book sealed)
+seals book before after (Err TooManyDefinitions) (_, rows, no_fit, _) limits sealed = (rows, no_fit)
 
 -- the counts, as the tests find them
 module _ (book before : Book) (n : ℕ) (counted : RowsCount (length book.definitions) book.rows (Some n)) (fits : n ≤ min (length before.rows) 2048) where
@@ -79,13 +79,13 @@ module _ (book before : Book) (n : ℕ) (counted : RowsCount (length book.defini
       WrittenRows (length book.definitions) book.rows before.rows rows places →
       definitions ≡ written_over (bodies (take (length book.rows) places) book.definitions) before.definitions →
       Outcome book before (book_of rows definitions) (Ok n)
-  written h rows definitions places of-rows of-definitions = record {
+  written h rows definitions places of_rows of_definitions = record {
     clearable = counted.0;
     rows_fit = rows_fit;
     definitions_fit = (omega (arith, twice book), omega (arith, twice book));
     counted = counted.1;
-    rows = of-rows.written;
-    definitions = of-definitions ∙ ap (λ ps. written_over (bodies ps book.definitions) before.definitions) of-rows.placed;
+    rows = of_rows.written;
+    definitions = of_definitions ∙ ap (λ ps. written_over (bodies ps book.definitions) before.definitions) of_rows.placed;
   }
 
 -- the verdicts of the book that is written

@@ -1,7 +1,7 @@
 // What a row adds to the cleared book: its positive row, and the rows of its complement.
 ghost use Rattle.std.specs.Prelude.{◌≡◌, ◌+◌, ◌≤◌, [], ◌∷◌};
 ghost use Rattle.rules.specs.declared.row.Row.TheVariants.{EveryMember, SomeMember, EveryElement, SomeElement, And, Or};
-ghost use Rattle.rules.specs.Clear.{added as added-rows, adds as adds-rows, look_up};
+ghost use Rattle.rules.specs.Clear.{added as added_rows, adds as adds_rows, look_up};
 ghost use Rattle.clearing.specs.Adding.{Plain, listed};
 
 use crate::added::Added;
@@ -27,7 +27,7 @@ pub(crate) fn place_of(places: &[Place], r: u16) -> Place
 // Every member of a matched name has an accepted value, or some has none.
 fn every_member(p: u16, place: Place, s: u16) -> Added
     requires { s ≤ 2048 }
-    ensures { listed result ≡ adds-rows (λ _. place) 0 s (EveryMember p 0) }
+    ensures { listed result ≡ adds_rows (λ _. place) 0 s (EveryMember p 0) }
 {
     let back = Row::SomeMember(p, place.negative);
     turn(
@@ -41,7 +41,7 @@ fn every_member(p: u16, place: Place, s: u16) -> Added
 // Some member of a matched name has an accepted value, or every one has none.
 fn some_member(p: u16, place: Place, s: u16) -> Added
     requires { s ≤ 2048 }
-    ensures { listed result ≡ adds-rows (λ _. place) 0 s (SomeMember p 0) }
+    ensures { listed result ≡ adds_rows (λ _. place) 0 s (SomeMember p 0) }
 {
     let back = Row::EveryMember(p, place.negative);
     turn(
@@ -55,7 +55,7 @@ fn some_member(p: u16, place: Place, s: u16) -> Added
 // Every element is accepted, or some is not.
 fn every_element(place: Place, s: u16) -> Added
     requires { s ≤ 2048 }
-    ensures { listed result ≡ adds-rows (λ _. place) 0 s (EveryElement 0) }
+    ensures { listed result ≡ adds_rows (λ _. place) 0 s (EveryElement 0) }
 {
     let back = Row::SomeElement(place.negative);
     turn(ValueType::List, s, Row::EveryElement(place.positive), back)
@@ -64,7 +64,7 @@ fn every_element(place: Place, s: u16) -> Added
 // Some element is accepted, or every one is not.
 fn some_element(place: Place, s: u16) -> Added
     requires { s ≤ 2048 }
-    ensures { listed result ≡ adds-rows (λ _. place) 0 s (SomeElement 0) }
+    ensures { listed result ≡ adds_rows (λ _. place) 0 s (SomeElement 0) }
 {
     let back = Row::EveryElement(place.negative);
     turn(ValueType::List, s, Row::SomeElement(place.positive), back)
@@ -73,7 +73,7 @@ fn some_element(place: Place, s: u16) -> Added
 // Two rows accept, or one of them does not.
 fn both(x: Place, y: Place, s: u16) -> Added
     requires { s ≤ 2048 }
-    ensures { listed result ≡ added-rows (And x.positive y.positive ∷ Or x.negative y.negative ∷ []) s (s + 1) }
+    ensures { listed result ≡ added_rows (And x.positive y.positive ∷ Or x.negative y.negative ∷ []) s (s + 1) }
 {
     pair(
         Row::And(x.positive, y.positive),
@@ -85,7 +85,7 @@ fn both(x: Place, y: Place, s: u16) -> Added
 // One of two rows accepts, or both do not.
 fn either(x: Place, y: Place, s: u16) -> Added
     requires { s ≤ 2048 }
-    ensures { listed result ≡ added-rows (Or x.positive y.positive ∷ And x.negative y.negative ∷ []) s (s + 1) }
+    ensures { listed result ≡ added_rows (Or x.positive y.positive ∷ And x.negative y.negative ∷ []) s (s + 1) }
 {
     pair(
         Row::Or(x.positive, y.positive),
@@ -96,7 +96,7 @@ fn either(x: Place, y: Place, s: u16) -> Added
 
 // The row stands where the complement of its operand does, and the other way round.
 fn turned_round(place: Place) -> Added
-    ensures { listed result ≡ added-rows [] place.negative place.positive }
+    ensures { listed result ≡ added_rows [] place.negative place.positive }
 {
     nothing(place.negative, place.positive)
 }
@@ -104,7 +104,7 @@ fn turned_round(place: Place) -> Added
 // What a row adds from row s on, by the places of the rows before it. There are d definitions.
 pub(crate) fn adds(places: &[Place], d: u16, s: u16, row: Row) -> Added
     requires { (s ≤ 2048) × ((d ≤ 64) × (Plain d row)) }
-    ensures { listed result ≡ adds-rows (look_up places.now) d s row }
+    ensures { listed result ≡ adds_rows (look_up places.now) d s row }
 {
     match row {
         Row::True => nothing(6, 7),

@@ -2,7 +2,7 @@
 ghost use Rattle.std.specs.Prelude.{◌≡◌, ◌+◌, ◌<◌, ◌≤◌, [], ◌∷◌};
 ghost use Rattle.rules.specs.declared.row.Row.TheVariants.{OfType};
 ghost use Rattle.rules.specs.Value.{type_index};
-ghost use Rattle.rules.specs.Clear.{added as added-rows, turn as turned_rows, outside as outside-rows, below as below-lower, above as above-upper, around_range, around_bounds, adds as adds-rows, other_type};
+ghost use Rattle.rules.specs.Clear.{added as added_rows, turn as turned_rows, outside as outside_rows, below as below_lower, above as above_upper, around_range, around_bounds, adds as adds_rows, other_type};
 ghost use Rattle.clearing.specs.Adding.{EndsBelow, nowhere, listed, measured, measured_type, compared, turned_comparison};
 
 use crate::added::Added;
@@ -109,7 +109,7 @@ pub(crate) fn turn(t: ValueType, s: u16, row: Row, back: Row) -> Added
 // The row and, for values of its type, the sides that it leaves out.
 fn outside(t: ValueType, s: u16, row: Row, low: Option<Row>, high: Option<Row>) -> Added
     requires { s ≤ 2048 }
-    ensures { listed result ≡ outside-rows t s row low high }
+    ensures { listed result ≡ outside_rows t s row low high }
 {
     match (low, high) {
         (None, None) => Added {
@@ -140,7 +140,7 @@ fn outside(t: ValueType, s: u16, row: Row, low: Option<Row>, high: Option<Row>) 
 
 // The counts below a lower end.
 fn below(lower: u16) -> Option<Range>
-    ensures { result ≡ below-lower lower }
+    ensures { result ≡ below_lower lower }
 {
     if lower == 0 {
         None
@@ -155,7 +155,7 @@ fn below(lower: u16) -> Option<Range>
 // The counts above an upper end.
 fn above(upper: Option<u16>) -> Option<Range>
     requires { EndsBelow upper }
-    ensures { result ≡ above-upper upper }
+    ensures { result ≡ above_upper upper }
 {
     match upper {
         None => None,
@@ -216,7 +216,7 @@ fn other_type(t: ValueType, k: u16) -> u16
 // A type, and the other five joined.
 pub(crate) fn of_type(t: ValueType, s: u16) -> Added
     requires { s ≤ 2048 }
-    ensures { listed result ≡ adds-rows (λ _. nowhere) 0 s (OfType t) }
+    ensures { listed result ≡ adds_rows (λ _. nowhere) 0 s (OfType t) }
 {
     Added {
         rows: [
@@ -237,7 +237,7 @@ pub(crate) fn of_type(t: ValueType, s: u16) -> Added
 // A row and its complement.
 pub(crate) fn pair(first: Row, second: Row, s: u16) -> Added
     requires { s ≤ 2048 }
-    ensures { listed result ≡ added-rows (first ∷ second ∷ []) s (s + 1) }
+    ensures { listed result ≡ added_rows (first ∷ second ∷ []) s (s + 1) }
 {
     Added {
         rows: [first, second, Row::True, Row::True, Row::True],
@@ -251,7 +251,7 @@ pub(crate) fn pair(first: Row, second: Row, s: u16) -> Added
 
 // No row is added.
 pub(crate) fn nothing(positive: u16, negative: u16) -> Added
-    ensures { listed result ≡ added-rows [] positive negative }
+    ensures { listed result ≡ added_rows [] positive negative }
 {
     Added {
         rows: [Row::True; 5],

@@ -1,4 +1,6 @@
 // Clears a rule book of `not`: writes an equal book in which each definition has its complement beside it.
+#![tactic(auto)]
+
 ghost use Rattle.std.specs.Prelude.{◌≡◌, min, nat_le};
 ghost use Rattle.clearing.specs.Outcomes.{book_of, Outcome, Seals};
 

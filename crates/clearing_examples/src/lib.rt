@@ -1,4 +1,6 @@
 // Worked examples of clearing, from a railway.
+#![tactic(auto)]
+
 #[cfg(test)]
 mod books;
 #[cfg(test)]

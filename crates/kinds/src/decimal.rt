@@ -8,7 +8,6 @@ ghost use Rattle.numbers.specs.Values.{MeansDecimal, in_millionths};
 ghost use Rattle.numbers.specs.Reading.{fixed};
 ghost use Rattle.numbers.proofs.Held.{held_lawful};
 ghost use Rattle.numbers.proofs.Decimals.{decimal_lawful};
-ghost use Rattle.std.proofs.Common.{rules};
 
 use crate::integer::{is_multiple, signed};
 use crate::number::Number;
@@ -30,9 +29,9 @@ impl Number for Decimal {
 
     const LONGEST: usize = 14;
 
-    ghost turns = { Prim.search rules };
+    ghost turns = { (held_lawful fixed a_decimal as_fixed (λ x. refl) decimal_lawful).turns };
 
-    ghost levels = { Prim.search rules };
+    ghost levels = { (held_lawful fixed a_decimal as_fixed (λ x. refl) decimal_lawful).levels };
 
     ghost tokens = { (held_lawful fixed a_decimal as_fixed (λ x. refl) decimal_lawful).reads_tokens };
 

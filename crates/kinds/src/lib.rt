@@ -1,4 +1,6 @@
 // Number kinds: the trait with its meaning and laws, and the kinds that there are.
+#![tactic(auto)]
+
 pub mod decimal;
 mod integer;
 pub mod number;

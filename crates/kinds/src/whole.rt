@@ -7,7 +7,6 @@ ghost use Rattle.numbers.specs.Values.{MeansWhole};
 ghost use Rattle.numbers.specs.Reading.{whole};
 ghost use Rattle.numbers.proofs.Held.{held_lawful};
 ghost use Rattle.numbers.proofs.Wholes.{whole_lawful};
-ghost use Rattle.std.proofs.Common.{rules};
 
 use crate::integer::{is_multiple, signed};
 use crate::number::Number;
@@ -28,9 +27,9 @@ impl Number for Whole {
 
     const LONGEST: usize = 17;
 
-    ghost turns = { Prim.search rules };
+    ghost turns = { (held_lawful whole a_whole value (λ z. refl) whole_lawful).turns };
 
-    ghost levels = { Prim.search rules };
+    ghost levels = { (held_lawful whole a_whole value (λ z. refl) whole_lawful).levels };
 
     ghost tokens = { (held_lawful whole a_whole value (λ z. refl) whole_lawful).reads_tokens };
 

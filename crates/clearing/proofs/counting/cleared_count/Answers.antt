@@ -6,18 +6,18 @@ use Rattle.rules.specs.Clear.{clearing, begun}
 use Rattle.clearing.proofs.Steps.{count_more, plain_more, stopped}
 use Rattle.clearing.proofs.counting.cleared_count.Goals as goal
 
-pub returns-in-err-count : goal.returns-in-err-count
-returns-in-err-count c =
-    rw c.from-residual.ensures (stopped c.args.d c.args.rows.now c.loop-row.row-index True (omega arith) c.in-err-count.ensures)
+pub returns-in_err-count : goal.returns-in_err-count
+returns-in_err-count c =
+    rw c.from_residual.ensures (stopped c.args.d c.args.rows.now c.loop-row.row-index True (omega arith) c.in_err-count.ensures)
 
 pub loop-row-preserved : goal.loop-row-preserved
 loop-row-preserved c =
     let d = c.args.d in
     let rows = c.args.rows.now in
     let r = c.loop-row.row-index in
-    let n = c.in-ok-count.field-0 in
+    let n = c.in_ok-count.field-0 in
     let here : r < length rows = omega arith in
-    let new = c.in-ok-count.ensures in
+    let new = c.in_ok-count.ensures in
     let more = count_more d rows r c.loop-row.count n True here c.loop-row.invariant.0 new.1 in
     (more.0, plain_more d rows r True here c.loop-row.invariant.1 new.0, omega (arith, more.1, c.loop-row.invariant.2))
 

@@ -5,5 +5,5 @@ use Rattle.clearing.proofs.writing.write_bodies.Goals as goal
 
 pub returns : goal.returns
 returns c =
-    halves c.args.out.now c.write-half.new.out c.write-half-2.new.out (λ b. (look_up c.args.places.now b).positive) (λ b. (look_up c.args.places.now b).negative)
-    c.args.definitions.now c.write-half.ensures c.write-half-2.ensures
+    halves c.args.out.now c.write_half.new.out c.write_half-2.new.out (λ b. (look_up c.args.places.now b).positive) (λ b. (look_up c.args.places.now b).negative)
+    c.args.definitions.now c.write_half.ensures c.write_half-2.ensures

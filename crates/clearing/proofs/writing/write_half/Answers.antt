@@ -12,4 +12,4 @@ pub loop-k-preserved : goal.loop-k-preserved
 loop-k-preserved c =
     let f : ℕ → ℕ = λ b. half_row c.args.half (look_up c.args.places.now b) in
     half_more c.args.out.now c.loop-k.out c.args.at c.loop-k.k f c.args.definitions.now c.half_row.result 0
-    (omega arith) (search rules) c.loop-k.invariant (c.half_row.ensures ∙ ap (half_row c.args.half) c.place-of.ensures)
+    (omega arith) (search rules) c.loop-k.invariant (c.half_row.ensures ∙ ap (half_row c.args.half) c.place_of.ensures)

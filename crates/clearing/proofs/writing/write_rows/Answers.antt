@@ -12,8 +12,8 @@ use Rattle.clearing.proofs.writing.write_rows.Goals as goal
 pub put-requires : goal.put-requires
 put-requires c = omega (arith, part_short c.args.d c.args.rows.now 0, c.requires.room)
 
-pub overflow-cast-count : goal.overflow-cast-count
-overflow-cast-count c = omega (arith, part_short c.args.d c.args.rows.now c.loop-r.r, c.requires.few_rows, c.loop-r.invariant.1)
+pub overflow_cast-count : goal.overflow_cast-count
+overflow_cast-count c = omega (arith, part_short c.args.d c.args.rows.now c.loop-r.r, c.requires.few_rows, c.loop-r.invariant.1)
 
 pub adds-new-requires : goal.adds-new-requires
 adds-new-requires c = (
@@ -27,8 +27,8 @@ put-requires-in-loop-r c =
     let next = count_next c.args.d c.args.rows.now c.loop-r.r c.loop-r.count c.loop-r.places (listed c.adds-new.result) i.1 i.2 c.loop-r-test.true c.adds-new.ensures in
     omega (arith, next, part_short c.args.d c.args.rows.now (c.loop-r.r + 1), c.requires.room, c.loop-r.auto.out, c.put.auto.out)
 
-pub overflow-add-count : goal.overflow-add-count
-overflow-add-count c = omega (arith, part_short c.args.d c.args.rows.now c.loop-r.r, c.requires.few_rows, c.loop-r.invariant.1, c.adds-new.result.few)
+pub overflow_add-count : goal.overflow_add-count
+overflow_add-count c = omega (arith, part_short c.args.d c.args.rows.now c.loop-r.r, c.requires.few_rows, c.loop-r.invariant.1, c.adds-new.result.few)
 
 pub loop-r-preserved : goal.loop-r-preserved
 loop-r-preserved c =

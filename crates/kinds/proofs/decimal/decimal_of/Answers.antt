@@ -11,8 +11,8 @@ returns-then-plain-places-gt12 c =
       | then-plain-places-gt12-via-else-plain-places-gt12+then-places-gt6 w ↦ is_fine c.args.token.now p.minus p.int.now p.places.now c.in_ok-plain.ensures w.if-places-gt6.true
     ]
 
-pub in-millionths-magnitude-requires : goal.in-millionths-magnitude-requires
-in-millionths-magnitude-requires c =
-    let p = c.in-ok-plain.plain in
-    let digits = digits_taken c.args.token.now p.minus p.int.now p.places.now c.in-ok-plain.ensures in
+pub in_millionths-magnitude-requires : goal.in_millionths-magnitude-requires
+in_millionths-magnitude-requires c =
+    let p = c.in_ok-plain.plain in
+    let digits = digits_taken c.args.token.now p.minus p.int.now p.places.now c.in_ok-plain.ensures in
     (digits.0, digits.1, omega (arith, c.if-plain-places-gt12.false), c.if-places-gt6.false)

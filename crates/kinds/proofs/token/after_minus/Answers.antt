@@ -3,5 +3,5 @@ use Rattle.std.proofs.lemmas.List.Sums.{prefix_len-le-length}
 use Rattle.numbers.specs.Reading.{is_digit}
 use Rattle.kinds.proofs.token.after_minus.Goals as goal
 
-pub split-at-requires : goal.split-at-requires
-split-at-requires c = omega (arith, c.digit_count.ensures, prefix_len-le-length is_digit c.args.bytes.now)
+pub split_at-requires : goal.split_at-requires
+split_at-requires c = omega (arith, c.digit_count.ensures, prefix_len-le-length is_digit c.args.bytes.now)

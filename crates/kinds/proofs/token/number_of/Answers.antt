@@ -4,14 +4,14 @@ use Rattle.numbers.specs.Values.{number}
 use Rattle.numbers.proofs.Digits.{digit_at, number_more, number_small}
 use Rattle.kinds.proofs.token.number_of.Goals as goal
 
-pub overflow-mul-n : goal.overflow-mul-n
-overflow-mul-n c = omega (arith, c.loop-d.invariant, number_small c.args.digits.now c.loop-d.d-index 18 c.requires.0 c.requires.1)
+pub overflow_mul-n : goal.overflow_mul-n
+overflow_mul-n c = omega (arith, c.loop-d.invariant, number_small c.args.digits.now c.loop-d.d-index 18 c.requires.0 c.requires.1)
 
-pub overflow-sub-d : goal.overflow-sub-d
-overflow-sub-d c = omega (arith, digit_at c.args.digits.now c.loop-d.d-index c.requires.0 c.loop-d-test.true)
+pub overflow_sub-d : goal.overflow_sub-d
+overflow_sub-d c = omega (arith, digit_at c.args.digits.now c.loop-d.d-index c.requires.0 c.loop-d-test.true)
 
-pub overflow-add-n : goal.overflow-add-n
-overflow-add-n c =
+pub overflow_add-n : goal.overflow_add-n
+overflow_add-n c =
     omega (
       arith,
       c.loop-d.invariant,

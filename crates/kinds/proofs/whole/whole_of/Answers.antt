@@ -11,7 +11,7 @@ returns-then-plain-gt0 c =
       | then-plain-gt0-via-else-plain-gt0+then-plain-gt16 w ↦ is_long c.args.token.now p.minus p.int.now p.places.now c.in_ok-plain.ensures w.if-plain-gt16.true
     ]
 
-pub number-of-magnitude-requires : goal.number-of-magnitude-requires
-number-of-magnitude-requires c =
-    let p = c.in-ok-plain.plain in
-    (digits_taken c.args.token.now p.minus p.int.now p.places.now c.in-ok-plain.ensures, omega (arith, c.if-plain-gt16.false))
+pub number_of-magnitude-requires : goal.number_of-magnitude-requires
+number_of-magnitude-requires c =
+    let p = c.in_ok-plain.plain in
+    (digits_taken c.args.token.now p.minus p.int.now p.places.now c.in_ok-plain.ensures, omega (arith, c.if-plain-gt16.false))

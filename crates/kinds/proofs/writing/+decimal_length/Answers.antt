@@ -8,4 +8,4 @@ returns-then-n-lt10 t c = record { is = sym (length_digit c.args.n c.if-n-lt10.t
 pub returns-else-n-lt10 : goal.returns-else-n-lt10
 returns-else-n-lt10 t c =
     let more = length_digits c.args.n c.if-n-lt10.false (omega arith) in
-    record { is = omega (arith, more, c.decimal-length.ensures.is); few = omega (arith, more, c.decimal-length.ensures.is, length_most c.args.n (omega arith)) }
+    record { is = omega (arith, more, c.decimal_length.ensures.is); few = omega (arith, more, c.decimal_length.ensures.is, length_most c.args.n (omega arith)) }

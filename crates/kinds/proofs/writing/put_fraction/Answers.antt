@@ -13,15 +13,15 @@ returns-then-count-eq0 c =
 pub bounds-out-at : goal.bounds-out-at
 bounds-out-at c = omega (arith, c.requires, length_fraction c.args.count c.args.part (omega arith))
 
-pub put-bytes-requires : goal.put-bytes-requires
-put-bytes-requires c =
+pub put_bytes-requires : goal.put_bytes-requires
+put_bytes-requires c =
     omega (
       arith,
       c.requires,
       c.from.ensures,
       c.min-places.ensures,
       length_fraction c.args.count c.args.part (omega arith),
-      length-take (c.min-places.result - 0) c.last-digits-digits.result,
+      length-take (c.min-places.result - 0) c.last_digits-digits.result,
       length-set c.args.out.now c.args.at 46,
     )
 

@@ -6,5 +6,5 @@ use Rattle.rows.proofs.fields.fields_of.Goals as goal
 pub returns : goal.returns
 returns c = record {
   is = search rules;
-  holds = fields_written c.args.bytes.now _ (search rules) (λ i. omega (arith, c.ok.bytes i)) refl c.word-3.ensures c.word-4.ensures (ends_written _ _ _ _ (search rules));
+  holds = fields_written c.args.bytes.now _ (search rules) (λ i. omega (arith, c.type_inv.bytes i)) refl c.word-3.ensures c.word-4.ensures (ends_written _ _ _ _ (search rules));
 }

@@ -13,7 +13,7 @@ returns c =
     omega (
       arith,
       length_written (as_fixed c.args.self),
-      c.minus-length.ensures.is ∙ ap (λ v. length (minus_of v)) same,
-      c.decimal-length.ensures.is ∙ ap (λ n. length (decimal (n / 10 ^ 6))) (c.unsigned-abs-ones.ensures.value ∙ ap nat_abs same),
-      c.fraction-length.ensures.is (nat_abs z % 10 ^ 6),
+      c.minus_length.ensures.is ∙ ap (λ v. length (minus_of v)) same,
+      c.decimal_length.ensures.is ∙ ap (λ n. length (decimal (n / 10 ^ 6))) (c.unsigned_abs-ones.ensures.value ∙ ap nat_abs same),
+      c.fraction_length.ensures.is (nat_abs z % 10 ^ 6),
     )
