@@ -102,7 +102,7 @@ def main():
     for path in antt_files() + source_files():
         comment = "//" if path.endswith(".rt") else "--"
         with open(path, encoding="utf-8") as f:
-            text = f.read()
+            text = found = f.read()
         here = dict(names)
         if RECURSIVE in text:
             # `All` is kept for the library's own, which goes by index
@@ -122,7 +122,7 @@ def main():
         if path.endswith(".rt"):
             lines = [imported_once(l) if l.lstrip().startswith("ghost use ") else l for l in lines]
         after = "".join(lines)
-        if after != text:
+        if after != found:
             with open(path, "w", encoding="utf-8") as f:
                 f.write(after)
 
