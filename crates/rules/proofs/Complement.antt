@@ -1,7 +1,7 @@
 -- The complement theorem.
 use Rattle.std.proofs.Common.{◌≡◌, ℕ, zero, suc, ◌+◌, ◌<◌, Bool, true, false, not, ◌&&◌, ◌||◌, eqb, ltb, leb, List, [], ◌∷◌, length, get_or, is_some, Some, None, Option, Ordering, Less, Equal, Greater, sym, refl, ap, ◌∙◌, ap₂, add-zero, arith, lit<}
 use mathlib.Core.Bool.{beq}
-use Rattle.std.specs.List.{AllByRecursion as All}
+use Rattle.std.specs.List.{AllByRecursion}
 use Rattle.std.proofs.ByRecursion.{All-weaker}
 use Rattle.std.proofs.lemmas.Bool.{cond_both, not-false}
 use Rattle.std.proofs.lemmas.Bool.Decides.{nat_tests}
@@ -249,8 +249,8 @@ module _ {K : Type 0} (world : World K) (book : Book) (V : Verdicts) (n : ℕ)
     abbrev pub Turned : ℕ → ℕ → Type 0
     Turned o m = V (places o).negative m ≡ not (V (places o).positive m)
 
-    pub row_fits : (s : ℕ) (row : Row) → All (λ o. Turned o n) (needs original row) → All (λ o. All (Turned o) (parts (value_at world n))) (operands row) →
-        All (λ v. v < length original.definitions) (variables row) →
+    pub row_fits : (s : ℕ) (row : Row) → AllByRecursion (λ o. Turned o n) (needs original row) → AllByRecursion (λ o. AllByRecursion (Turned o) (parts (value_at world n))) (operands row) →
+        AllByRecursion (λ v. v < length original.definitions) (variables row) →
         Follow s (adds places (length original.definitions) s row).rows →
         Fits (adds places (length original.definitions) s row) (says world original (λ r m. V (places r).positive m) row n)
     row_fits s True h b v follow = (base 6 (lit< tt), base 7 (lit< tt))
@@ -279,14 +279,14 @@ module _ {K : Type 0} (world : World K) (book : Book) (V : Verdicts) (n : ℕ)
     row_fits s (EveryMember p o) h b v follow =
         turn_fits Object (as_object (value_at world n)) (is_object (value_at world n)) s (EveryMember p (places o).positive) _ refl
         (SomeMember p (places o).negative) _ refl
-        (weaker (as_object (value_at world n)) (λ ms. All (λ m. Turned o m.node) ms) _
+        (weaker (as_object (value_at world n)) (λ ms. AllByRecursion (λ m. Turned o m.node) ms) _
         (λ ms k. not_all _ _ ms (All-weaker (λ m. Turned o m.node) _ (λ m e. some_member (world.matches p m.name) (V (places o).positive m.node) (V (places o).negative m.node) e) ms k))
         (in_object (value_at world n) (Turned o) b.0))
         follow
     row_fits s (SomeMember p o) h b v follow =
         turn_fits Object (as_object (value_at world n)) (is_object (value_at world n)) s (SomeMember p (places o).positive) _ refl
         (EveryMember p (places o).negative) _ refl
-        (weaker (as_object (value_at world n)) (λ ms. All (λ m. Turned o m.node) ms) _
+        (weaker (as_object (value_at world n)) (λ ms. AllByRecursion (λ m. Turned o m.node) ms) _
         (λ ms k. not_any _ _ ms (All-weaker (λ m. Turned o m.node) _ (λ m e. every_member (world.matches p m.name) (V (places o).positive m.node) (V (places o).negative m.node) e) ms k))
         (in_object (value_at world n) (Turned o) b.0))
         follow
@@ -294,11 +294,11 @@ module _ {K : Type 0} (world : World K) (book : Book) (V : Verdicts) (n : ℕ)
     row_fits s (EveryElement o) h b v follow =
         turn_fits Listed (as_list (value_at world n)) (is_list (value_at world n)) s (EveryElement (places o).positive) (all (V (places o).positive)) refl
         (SomeElement (places o).negative) (any (V (places o).negative)) refl
-        (weaker (as_list (value_at world n)) (λ es. All (Turned o) es) _ (not_all _ _) (in_list (value_at world n) (Turned o) b.0)) follow
+        (weaker (as_list (value_at world n)) (λ es. AllByRecursion (Turned o) es) _ (not_all _ _) (in_list (value_at world n) (Turned o) b.0)) follow
     row_fits s (SomeElement o) h b v follow =
         turn_fits Listed (as_list (value_at world n)) (is_list (value_at world n)) s (SomeElement (places o).positive) (any (V (places o).positive)) refl
         (EveryElement (places o).negative) (all (V (places o).negative)) refl
-        (weaker (as_list (value_at world n)) (λ es. All (Turned o) es) _ (not_any _ _) (in_list (value_at world n) (Turned o) b.0)) follow
+        (weaker (as_list (value_at world n)) (λ es. AllByRecursion (Turned o) es) _ (not_any _ _) (in_list (value_at world n) (Turned o) b.0)) follow
     row_fits s (Count o range) h b v follow =
         range_fits Listed (as_list (value_at world n)) (is_list (value_at world n)) s (Count (places o).positive) (count (V (places o).positive)) (λ _. refl) range follow
     row_fits s (And a c) h b v follow = (

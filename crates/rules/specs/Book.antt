@@ -1,6 +1,6 @@
 -- Rule books: which rows a row names and which it needs, and what a sealed book is.
 use Rattle.std.specs.Prelude.{◌≡◌, ℕ, ◌%◌, ◌<◌, ◌≤◌, Bool, true, List, [], ◌∷◌, length, Some, None, Option, ◌≢◌, slice_index, slice_index_or}
-use Rattle.std.specs.List.{AllByRecursion as All}
+use Rattle.std.specs.List.{AllByRecursion}
 use Rattle.numbers.specs.Kinds.{Kind, above_zero as is_above_zero}
 use Rattle.rules.specs.Value.{◌∈◌}
 use Rattle.rules.specs.declared.row.Range.{Range}
@@ -155,8 +155,8 @@ pub record Sealed (limits : Limits) (book : Book) : Type 0 where
   pub some_definition : 1 ≤ length book.definitions
   pub few_definitions : length book.definitions ≤ 128
   pub allowed : (r : ℕ) → r < length book.rows → Allowed limits (row_at book r)
-  pub lower : (r : ℕ) → r < length book.rows → All (λ o. o < r) (operands (row_at book r))
-  pub defined : (r : ℕ) → r < length book.rows → All (λ v. v < length book.definitions) (variables (row_at book r))
+  pub lower : (r : ℕ) → r < length book.rows → AllByRecursion (λ o. o < r) (operands (row_at book r))
+  pub defined : (r : ℕ) → r < length book.rows → AllByRecursion (λ v. v < length book.definitions) (variables (row_at book r))
   pub bodies : (v : ℕ) → v < length book.definitions → body_at book v < length book.rows
   pub guarded : Guarded book
 
