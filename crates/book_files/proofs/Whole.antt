@@ -11,7 +11,7 @@ use Rattle.rules.specs.declared.row.Row.{Row}
 use Rattle.rules.specs.declared.row.Row.TheVariants.{False}
 use Rattle.rows.specs.Rows.{row_bytes}
 use Rattle.books.specs.Guard.{Lowest, book_of}
-use Rattle.books.specs.Sealing.{plain_test, ComesTo as Comes-tested}
+use Rattle.books.specs.Sealing.{plain_test, ComesTo as ComesTested}
 use Rattle.books.specs.Tests.{Tested, passes, ask, variable_test, first_refused}
 use Rattle.books.specs.declared.fault.BookFault.{BookFault}
 use Rattle.books.specs.declared.fault.BookFault.TheVariants.{FileTooLong, NoDefinition}
@@ -186,7 +186,7 @@ module _ {K : Type 0} (kind : Kind K) (patterns : ℕ) where
             refl,
             ⊎_elim
                 (λ (t : end_of (length (file a.draft)) a.draft.rows a.draft.bodies ≡ Err e). inl (sym pass ∙ t))
-                (λ (t : (end_of (length (file a.draft)) a.draft.rows a.draft.bodies ≡ passes) × Comes-tested (limits kind patterns a.draft) (book a.draft) (Err e)).
+                (λ (t : (end_of (length (file a.draft)) a.draft.rows a.draft.bodies ≡ passes) × ComesTested (limits kind patterns a.draft) (book a.draft) (Err e)).
                 ⊎_elim
                 (λ (p : plain_test (limits kind patterns a.draft) (book a.draft) ≡ Err e).
                 refused_passes e (sym p ∙ kept_back (limits kind patterns a.draft) (book a.draft) (kept a.draft a.fits (sym pass ∙ t.0))))
