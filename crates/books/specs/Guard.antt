@@ -1,7 +1,7 @@
 -- The lowest row that needs itself, and what the search for it rests on.
 use Rattle.std.specs.Prelude.{◌≡◌, ℕ, ◌<◌, ◌≤◌, Bool, true, false, ◌⊎◌, List, [], ◌∷◌, ◌++◌, length, Some, None, Option, ◌==◌, ◌≢◌, slice_index_or}
 use Rattle.std.specs.List.{AllByRecursion as All}
-use Rattle.rules.specs.Book.{Book, Reach, nothing, inner, both, negated, body, reach, row_at, body_at, operands, variables, needs, Needs, Guarded}
+use Rattle.rules.specs.Book.{Book, Reach, nothing, inner, both, negated, body, reach, row_at, body_at, operands, variables, Needs, Guarded}
 use Rattle.rules.specs.declared.row.Row.{Row}
 use Rattle.rules.specs.declared.row.Row.TheVariants.{False}
 use Rattle.books.specs.declared.guard.Direct.{Direct}

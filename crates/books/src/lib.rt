@@ -1,4 +1,6 @@
 // Rule books: their rows and definitions tested, and sealed.
+#![tactic(auto)]
+
 pub mod book;
 pub mod fault;
 mod guard;

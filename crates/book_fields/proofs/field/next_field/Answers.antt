@@ -8,5 +8,5 @@ returns c =
     let s = c.in-Ok.ensures in
     record {
       takes = search rules;
-      cuts = cut_is c.args.bytes.now c.in-Ok.field.body.now c.in-Ok.field.rest.now c.in-Ok.field.tag s.0 (omega (arith, c.type-inv.bytes 2)) s.1 s.2 s.3;
+      cuts = cut_is c.args.bytes.now c.in-Ok.field.body.now c.in-Ok.field.rest.now c.in-Ok.field.tag s.0 (omega (arith, c.type_inv.bytes 2)) s.1 s.2 s.3;
     }

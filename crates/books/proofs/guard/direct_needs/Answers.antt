@@ -1,5 +1,5 @@
 -- Each kind of row needs what the code lists.
-use Rattle.std.proofs.Common.{refl, arith, rules}
+use Rattle.std.proofs.Common.{refl, arith}
 use Rattle.books.specs.Guard.{book_of}
 use Rattle.books.proofs.Needing.{needs_nothing}
 use Rattle.books.proofs.guard.direct_needs.Goals as goal
@@ -13,8 +13,8 @@ returns-in-Not c = λ rows. rw c.in-Not.is refl
 pub returns-in-Variable : goal.returns-in-Variable
 returns-in-Variable c = λ rows. rw (c.in-Variable.is, c.from.ensures) refl
 
-pub returns-in-default : goal.returns-in-default
-returns-in-default c = λ rows. needs_nothing (book_of rows c.args.definitions.now) c.args.row c.in-default.not-And c.in-default.not-Or c.in-default.not-Not c.in-default.not-Variable
+pub returns-in_default : goal.returns-in_default
+returns-in_default c = λ rows. needs_nothing (book_of rows c.args.definitions.now) c.args.row c.in_default.not-And c.in_default.not-Or c.in_default.not-Not c.in_default.not-Variable
 
 pub returns-in-And : goal.returns-in-And
 returns-in-And c = λ rows. rw c.in-And.is refl

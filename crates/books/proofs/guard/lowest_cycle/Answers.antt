@@ -7,7 +7,7 @@ use Rattle.books.proofs.guard.lowest_cycle.Goals as goal
 pub loop-d-preserved : goal.loop-d-preserved
 loop-d-preserved c =
     subst (Best (book_of c.args.rows.now c.args.definitions.now) (c.loop-d.d + 1)) (sym c.min-lowest.ensures)
-    (next_best (book_of c.args.rows.now c.args.definitions.now) c.loop-d.d c.loop-d.lowest c.lowest-variable.result c.loop-d.invariant c.lowest-variable.ensures)
+    (next_best (book_of c.args.rows.now c.args.definitions.now) c.loop-d.d c.loop-d.lowest c.lowest_variable.result c.loop-d.invariant c.lowest_variable.ensures)
 
 pub returns-then-lowest-rows : goal.returns-then-lowest-rows
 returns-then-lowest-rows c =

@@ -12,26 +12,26 @@ loop-height-init c =
     let book = book_of c.args.rows.now c.args.definitions.now in
     subst (Spreading book c.args.start []) (sym c.visit-height.ensures) (started book c.args.start c.args.marks.now c.args.stack.now (search rules) (search rules))
 
-pub direct-needs-needs-requires : goal.direct-needs-needs-requires
-direct-needs-needs-requires c = defined_at (book_of c.args.rows.now c.args.definitions.now) (search rules) c.from.result True (search rules)
+pub direct_needs-needs-requires : goal.direct_needs-needs-requires
+direct_needs-needs-requires c = defined_at (book_of c.args.rows.now c.args.definitions.now) (search rules) c.from.result True (search rules)
 
-pub visit-any-once-requires : goal.visit-any-once-requires
-visit-any-once-requires c =
+pub visit_any-once-requires : goal.visit_any-once-requires
+visit_any-once-requires c =
     let book = book_of c.args.rows.now c.args.definitions.now in
     let w = work c.loop-height.marks c.loop-height.stack c.loop-height.height in
     let joined : Joined book = search rules in
     let inside : c.from.result < length c.args.rows.now = rw c.from.ensures (top_inside book c.args.start joined w c.loop-height.invariant c.loop-height-test.true) in
-    let is = needs_at book c.from.result (top w) True _ c.from.ensures inside (c.direct-needs-needs.ensures c.args.rows.now) in
-    (one book c.args.start joined w c.loop-height.invariant c.loop-height-test.true c.direct-needs-needs.result is).0
+    let is = needs_at book c.from.result (top w) True _ c.from.ensures inside (c.direct_needs-needs.ensures c.args.rows.now) in
+    (one book c.args.start joined w c.loop-height.invariant c.loop-height-test.true c.direct_needs-needs.result is).0
 
-pub visit-any-height-requires : goal.visit-any-height-requires
-visit-any-height-requires c =
+pub visit_any-height-requires : goal.visit_any-height-requires
+visit_any-height-requires c =
     let book = book_of c.args.rows.now c.args.definitions.now in
     let w = work c.loop-height.marks c.loop-height.stack c.loop-height.height in
     let joined : Joined book = search rules in
     let inside : c.from.result < length c.args.rows.now = rw c.from.ensures (top_inside book c.args.start joined w c.loop-height.invariant c.loop-height-test.true) in
-    let is = needs_at book c.from.result (top w) True _ c.from.ensures inside (c.direct-needs-needs.ensures c.args.rows.now) in
-    (two book c.args.start joined w c.loop-height.invariant c.loop-height-test.true c.direct-needs-needs.result is _ c.visit-any-once.ensures).0
+    let is = needs_at book c.from.result (top w) True _ c.from.ensures inside (c.direct_needs-needs.ensures c.args.rows.now) in
+    (two book c.args.start joined w c.loop-height.invariant c.loop-height-test.true c.direct_needs-needs.result is _ c.visit_any-once.ensures).0
 
 pub loop-height-smaller : goal.loop-height-smaller
 loop-height-smaller c =
@@ -39,9 +39,9 @@ loop-height-smaller c =
     let w = work c.loop-height.marks c.loop-height.stack c.loop-height.height in
     let joined : Joined book = search rules in
     let inside : c.from.result < length c.args.rows.now = rw c.from.ensures (top_inside book c.args.start joined w c.loop-height.invariant c.loop-height-test.true) in
-    let is = needs_at book c.from.result (top w) True _ c.from.ensures inside (c.direct-needs-needs.ensures c.args.rows.now) in
-    let t = two book c.args.start joined w c.loop-height.invariant c.loop-height-test.true c.direct-needs-needs.result is _ c.visit-any-once.ensures in
-    subst (λ v. left v < left w) (sym c.visit-any-height.ensures) t.1.1
+    let is = needs_at book c.from.result (top w) True _ c.from.ensures inside (c.direct_needs-needs.ensures c.args.rows.now) in
+    let t = two book c.args.start joined w c.loop-height.invariant c.loop-height-test.true c.direct_needs-needs.result is _ c.visit_any-once.ensures in
+    subst (λ v. left v < left w) (sym c.visit_any-height.ensures) t.1.1
 
 pub loop-height-preserved : goal.loop-height-preserved
 loop-height-preserved c =
@@ -49,9 +49,9 @@ loop-height-preserved c =
     let w = work c.loop-height.marks c.loop-height.stack c.loop-height.height in
     let joined : Joined book = search rules in
     let inside : c.from.result < length c.args.rows.now = rw c.from.ensures (top_inside book c.args.start joined w c.loop-height.invariant c.loop-height-test.true) in
-    let is = needs_at book c.from.result (top w) True _ c.from.ensures inside (c.direct-needs-needs.ensures c.args.rows.now) in
-    let t = two book c.args.start joined w c.loop-height.invariant c.loop-height-test.true c.direct-needs-needs.result is _ c.visit-any-once.ensures in
-    subst (Spreading book c.args.start []) (sym c.visit-any-height.ensures) t.1.0
+    let is = needs_at book c.from.result (top w) True _ c.from.ensures inside (c.direct_needs-needs.ensures c.args.rows.now) in
+    let t = two book c.args.start joined w c.loop-height.invariant c.loop-height-test.true c.direct_needs-needs.result is _ c.visit_any-once.ensures in
+    subst (Spreading book c.args.start []) (sym c.visit_any-height.ensures) t.1.0
 
 pub returns : goal.returns
 returns c = all_marked (book_of c.args.rows.now c.args.definitions.now) c.args.start (work c.loop-height.marks c.loop-height.stack c.loop-height.height) c.loop-height.invariant (omega arith)

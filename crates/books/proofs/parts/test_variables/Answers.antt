@@ -6,14 +6,14 @@ use Rattle.books.specs.Tests.{variable_test}
 use Rattle.books.proofs.Passing.{refused_here, passed_here, all_passed}
 use Rattle.books.proofs.parts.test_variables.Goals as goal
 
-pub returns-in-err-test-variable : goal.returns-in-err-test-variable
-returns-in-err-test-variable c =
-    let p = err_from_is_err_and c.from-residual.result c.from-residual.ensures.1 in
+pub returns-in_err-test_variable : goal.returns-in_err-test_variable
+returns-in_err-test_variable c =
+    let p = err_from_is_err_and c.from_residual.result c.from_residual.ensures.1 in
     rw (p.1, p.2)
-    (refused_here (variable_test c.args.definitions) c.args.rows.now c.loop-at.at True c.in-err-test-variable.field-0.0 c.loop-at.invariant (search rules) c.in-err-test-variable.ensures)
+    (refused_here (variable_test c.args.definitions) c.args.rows.now c.loop-at.at True c.in_err-test_variable.field-0.0 c.loop-at.invariant (search rules) c.in_err-test_variable.ensures)
 
 pub loop-at-preserved : goal.loop-at-preserved
-loop-at-preserved c = passed_here (variable_test c.args.definitions) c.args.rows.now c.loop-at.at True c.loop-at.invariant (search rules) c.in-ok-test-variable.ensures
+loop-at-preserved c = passed_here (variable_test c.args.definitions) c.args.rows.now c.loop-at.at True c.loop-at.invariant (search rules) c.in_ok-test_variable.ensures
 
 pub returns : goal.returns
 returns c = all_passed (variable_test c.args.definitions) c.args.rows.now c.loop-at.at c.loop-at.invariant (search rules)

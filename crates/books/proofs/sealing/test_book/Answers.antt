@@ -5,28 +5,28 @@ use Rattle.books.specs.Guard.{book_of}
 use Rattle.books.proofs.Keeping.{refused_by, passed_joined, unguarded_at, sealed_by, only_one}
 use Rattle.books.proofs.sealing.test_book.Goals as goal
 
-pub returns-in-err-test-parts : goal.returns-in-err-test-parts
-returns-in-err-test-parts g c =
+pub returns-in_err-test_parts : goal.returns-in_err-test_parts
+returns-in_err-test_parts g c =
     let limits = limits_of g.K.Number.kind c.args.patterns c.args.numbers.now in
     let book = book_of c.args.rows.now c.args.definitions.now in
-    let p = err_from_is_err_and c.from-residual.result c.from-residual.ensures.1 in
-    let t = refused_by limits book c.in-err-test-parts.field-0.0 c.in-err-test-parts.ensures in
+    let p = err_from_is_err_and c.from_residual.result c.from_residual.ensures.1 in
+    let t = refused_by limits book c.in_err-test_parts.field-0.0 c.in_err-test_parts.ensures in
     rw (p.1, p.2) (record { comes = t.0; only = λ other. only_one limits book _ other t.0; seals = t.1 })
 
-pub lowest-cycle-requires : goal.lowest-cycle-requires
-lowest-cycle-requires g c =
-    passed_joined (limits_of g.K.Number.kind c.args.patterns c.args.numbers.now) (book_of c.args.rows.now c.args.definitions.now) c.in-ok-test-parts.ensures
+pub lowest_cycle-requires : goal.lowest_cycle-requires
+lowest_cycle-requires g c =
+    passed_joined (limits_of g.K.Number.kind c.args.patterns c.args.numbers.now) (book_of c.args.rows.now c.args.definitions.now) c.in_ok-test_parts.ensures
 
 pub returns-in-Some : goal.returns-in-Some
 returns-in-Some g c =
     let limits = limits_of g.K.Number.kind c.args.patterns c.args.numbers.now in
     let book = book_of c.args.rows.now c.args.definitions.now in
-    let t = unguarded_at limits book c.in-Some.row c.in-ok-test-parts.ensures c.in-Some.ensures in
+    let t = unguarded_at limits book c.in-Some.row c.in_ok-test_parts.ensures c.in-Some.ensures in
     record { comes = t.0; only = λ other. only_one limits book _ other t.0; seals = t.1 }
 
 pub returns-in-None : goal.returns-in-None
 returns-in-None g c =
     let limits = limits_of g.K.Number.kind c.args.patterns c.args.numbers.now in
     let book = book_of c.args.rows.now c.args.definitions.now in
-    let t = sealed_by limits book c.in-ok-test-parts.ensures c.in-None.ensures in
+    let t = sealed_by limits book c.in_ok-test_parts.ensures c.in-None.ensures in
     record { comes = t.0; only = λ other. only_one limits book _ other t.0; seals = t.1 }

@@ -3,5 +3,5 @@ use Rattle.std.proofs.Common.{refl}
 use Rattle.books.proofs.Cycles.{false_guarded}
 use Rattle.books.proofs.book.Book.accepting_nothing.Goals as goal
 
-pub invariant-of-result : goal.invariant-of-result
-invariant-of-result c = (refl, (false_guarded, tt))
+pub invariant_of-result : goal.invariant_of-result
+invariant_of-result c = record { passed = refl; guarded = false_guarded }

@@ -6,17 +6,20 @@ use Rattle.books.specs.Sealing.{counts}
 use Rattle.books.proofs.Keeping.{counts_pass, view_sealed}
 use Rattle.books.proofs.book.Book.seal.Goals as goal
 
-pub invariant-of-result : goal.invariant-of-result
-invariant-of-result g c =
-    let sealed = c.in-default.ensures.seals in
-    (counts_pass (limits_of g.K.Number.kind c.args.patterns c.args.numbers.now) (book_of c.args.rows.now c.args.definitions.now) sealed, (sealed.guarded, tt))
+pub invariant_of-result : goal.invariant_of-result
+invariant_of-result g c =
+    let sealed = c.in_default.ensures.seals in
+    record {
+      passed = counts_pass (limits_of g.K.Number.kind c.args.patterns c.args.numbers.now) (book_of c.args.rows.now c.args.definitions.now) sealed;
+      guarded = sealed.guarded;
+    }
 
 pub returns-in-Err : goal.returns-in-Err
 returns-in-Err g c =
-    let b = c.accepting-nothing.result in
+    let b = c.accepting_nothing.result in
     record {
       same = λ sealed. elim (c.in-Err.ensures.seals sealed) [ ];
-      nothing = λ _. c.accepting-nothing.ensures;
+      nothing = λ _. c.accepting_nothing.ensures;
       sealed = view_sealed (counts b.patterns b.numbers) (book_of b.rows.now b.definitions.now) b.passed b.guarded;
     }
 
@@ -24,7 +27,7 @@ pub returns : goal.returns
 returns g c =
     let limits = limits_of g.K.Number.kind c.args.patterns c.args.numbers.now in
     let book = book_of c.args.rows.now c.args.definitions.now in
-    let sealed = c.in-default.ensures.seals in
+    let sealed = c.in_default.ensures.seals in
     record {
       same = λ _. (refl, refl, refl, refl);
       nothing = λ not-sealed. absurd (not-sealed sealed);
