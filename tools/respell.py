@@ -12,8 +12,15 @@ import glob
 import re
 import sys
 
-DELIMITERS = " \t\n(){}[],.;"
+RECURSIVE = "AllByRecursion as All"
 SPECIAL = {"Digit1-9": "DigitOneToNine"}
+# what the kit's script left half turned, and the names that bind a value or a module in one place
+MORE = {
+    "Laid_out": "LaidOut", "is-above-zero": "is_above_zero", "turned-row": "turned_row", "name-parts": "name_parts", "mask-parts": "mask_parts",
+    "pattern-refusal": "pattern_refusal", "book-refusal": "book_refusal", "clearing-refusal": "clearing_refusal",
+    "start-ts": "start_ts", "start-text": "start_text", "now-ts": "now_ts", "now-text": "now_text",
+    "mid-ts": "mid_ts", "mid-text": "mid_text", "end-ts": "end_ts", "end-text": "end_text",
+}
 DECLARED = re.compile(
     r"^\s*(?:abbrev pub |abbrev |unfoldable pub |unfoldable |pub data |pub record |data |record |pub ruleset |ruleset |pub )?"
     r"([^\s(){}\[\],.;:]+)(?:\s+[^:\n]*?)?\s+:\s(.*)$"
@@ -91,12 +98,16 @@ def imported_once(line):
 
 def main():
     say = "--say" in sys.argv[1:]
-    names = {n: respelled(n) for n in declared()}
+    names = {n: respelled(n) for n in declared()} | MORE
     for path in antt_files() + source_files():
         comment = "//" if path.endswith(".rt") else "--"
         with open(path, encoding="utf-8") as f:
-            text = f.read()
+            text = found = f.read()
         here = dict(names)
+        if RECURSIVE in text:
+            # `All` is kept for the library's own, which goes by index
+            text = text.replace(RECURSIVE, "AllByRecursion")
+            here["All"] = "AllByRecursion"
         if path.endswith(".rt"):
             for m in ALIAS.finditer("\n".join(l for l in text.splitlines() if l.lstrip().startswith("ghost use "))):
                 here[m.group(2)] = snake(m.group(2))
@@ -111,7 +122,7 @@ def main():
         if path.endswith(".rt"):
             lines = [imported_once(l) if l.lstrip().startswith("ghost use ") else l for l in lines]
         after = "".join(lines)
-        if after != text:
+        if after != found:
             with open(path, "w", encoding="utf-8") as f:
                 f.write(after)
 

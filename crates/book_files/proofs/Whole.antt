@@ -3,7 +3,7 @@ use Rattle.std.proofs.Common.{◌≡◌, ℕ, ◌+◌, ◌-◌, ◌*◌, ◌<◌
 use Rattle.std.proofs.lemmas.List.{append-nil, take_at, get_or_default, length-map}
 use Rattle.std.proofs.lemmas.Bool.{cases_lt, eqb-false, ne_eqb, not-true, not_from_false}
 use Rattle.std.specs.Result.{result_and}
-use Rattle.std.specs.List.{AllByRecursion as All}
+use Rattle.std.specs.List.{AllByRecursion}
 use Rattle.numbers.specs.Kinds.{Kind}
 use Rattle.kinds.specs.Causes.{outcome}
 use Rattle.rules.specs.Book.{Book, Limits, limits_of, reach, row_at, body_at, variables, Guarded, Sealed}
@@ -11,7 +11,7 @@ use Rattle.rules.specs.declared.row.Row.{Row}
 use Rattle.rules.specs.declared.row.Row.TheVariants.{False}
 use Rattle.rows.specs.Rows.{row_bytes}
 use Rattle.books.specs.Guard.{Lowest, book_of}
-use Rattle.books.specs.Sealing.{plain_test, ComesTo as Comes-tested}
+use Rattle.books.specs.Sealing.{plain_test, ComesTo as ComesTested}
 use Rattle.books.specs.Tests.{Tested, passes, ask, variable_test, first_refused}
 use Rattle.books.specs.declared.fault.BookFault.{BookFault}
 use Rattle.books.specs.declared.fault.BookFault.TheVariants.{FileTooLong, NoDefinition}
@@ -64,7 +64,7 @@ module _ {K : Type 0} (kind : Kind K) (patterns : ℕ) where
         Sealed (limits kind patterns draft) (book draft)
     sealed_draft draft fits pass guarded = kept_sealed (limits kind patterns draft) (book draft) (kept draft fits pass) guarded
 
-    all_from_each : (numerals : List (Numeral K)) (n : ℕ) → Each (NumberFits kind (room_of before)) n numerals → All (λ z. outcome kind z.token ≡ Ok z.value) numerals
+    all_from_each : (numerals : List (Numeral K)) (n : ℕ) → Each (NumberFits kind (room_of before)) n numerals → AllByRecursion (λ z. outcome kind z.token ≡ Ok z.value) numerals
     all_from_each [] n each = tt
     all_from_each (z ∷ numerals) n each = (each.0.1, all_from_each numerals (n + 1) each.1)
 
@@ -81,7 +81,7 @@ module _ {K : Type 0} (kind : Kind K) (patterns : ℕ) where
       sealed = sealed_draft draft fits pass guarded;
     }
 
-    each_from_all : (numerals : List (Numeral K)) (n : ℕ) → n + length numerals ≤ (room_of before).numbers → All (λ z. outcome kind z.token ≡ Ok z.value) numerals →
+    each_from_all : (numerals : List (Numeral K)) (n : ℕ) → n + length numerals ≤ (room_of before).numbers → AllByRecursion (λ z. outcome kind z.token ≡ Ok z.value) numerals →
         Each (NumberFits kind (room_of before)) n numerals
     each_from_all [] n few all_read = tt
     each_from_all (z ∷ numerals) n few all_read = ((omega arith, all_read.0), each_from_all numerals (n + 1) (omega arith) all_read.1)
@@ -186,7 +186,7 @@ module _ {K : Type 0} (kind : Kind K) (patterns : ℕ) where
             refl,
             ⊎_elim
                 (λ (t : end_of (length (file a.draft)) a.draft.rows a.draft.bodies ≡ Err e). inl (sym pass ∙ t))
-                (λ (t : (end_of (length (file a.draft)) a.draft.rows a.draft.bodies ≡ passes) × Comes-tested (limits kind patterns a.draft) (book a.draft) (Err e)).
+                (λ (t : (end_of (length (file a.draft)) a.draft.rows a.draft.bodies ≡ passes) × ComesTested (limits kind patterns a.draft) (book a.draft) (Err e)).
                 ⊎_elim
                 (λ (p : plain_test (limits kind patterns a.draft) (book a.draft) ≡ Err e).
                 refused_passes e (sym p ∙ kept_back (limits kind patterns a.draft) (book a.draft) (kept a.draft a.fits (sym pass ∙ t.0))))

@@ -1,7 +1,7 @@
 -- What reading a book's file comes to.
 use Rattle.std.specs.Prelude.{◌≡◌, ℕ, ◌+◌, ◌<◌, ◌≤◌, cond, not, ◌⊎◌, List, [], ◌∷◌, ◌++◌, length, take, drop, replicate, Ok, Err, Result, ◌==◌, nat_le}
 use Rattle.std.specs.Result.{result_and}
-use Rattle.std.specs.List.{AllByRecursion as All}
+use Rattle.std.specs.List.{AllByRecursion}
 use Rattle.fields.specs.Fields.{tag_of, stated_length}
 use Rattle.numbers.specs.Kinds.{Kind}
 use Rattle.kinds.specs.Causes.{outcome}
@@ -30,7 +30,7 @@ last_tag rows (body ∷ bodies) = 3
 
 -- there is room for the row, its fields are allowed, and it names only rows before it
 abbrev pub RowFits : Room → Limits → ℕ → Row → Type 0
-RowFits room within r row = (r < room.rows) × Allowed within row × All (λ o. o < r) (operands row)
+RowFits room within r row = (r < room.rows) × Allowed within row × AllByRecursion (λ o. o < r) (operands row)
 
 -- there is room for the definition, and its body is one of so many rows
 abbrev pub BodyFits : Room → (rows : ℕ) → ℕ → ℕ → Type 0
@@ -99,7 +99,7 @@ module _ {K : Type 0} (kind : Kind K) (patterns : ℕ) (room : Room) where
   pub record IsFile (bytes : List ℕ) (draft : Draft K) : Type 0 where
     pub short : length bytes ≤ 65535
     pub written : bytes ≡ file draft
-    pub read : All (λ n. outcome kind n.token ≡ Ok n.value) draft.numerals
+    pub read : AllByRecursion (λ n. outcome kind n.token ≡ Ok n.value) draft.numerals
     pub numbers_fit : length draft.numerals ≤ room.numbers
     pub rows_fit : length draft.rows ≤ room.rows
     pub bodies_fit : length draft.bodies ≤ room.definitions

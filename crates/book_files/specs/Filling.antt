@@ -5,7 +5,7 @@ use Rattle.numbers.specs.Kinds.{Kind}
 use Rattle.rules.specs.declared.row.Row.{Row}
 use Rattle.rules.specs.Book.{Limits}
 use Rattle.books.specs.Guard.{book_of}
-use Rattle.books.specs.Sealing.{ComesTo as Comes-tested}
+use Rattle.books.specs.Sealing.{ComesTo as ComesTested}
 use Rattle.books.specs.Tests.{Tested, passes, ask, variable_test, first_refused}
 use Rattle.books.specs.declared.fault.BookFault.{BookFault}
 use Rattle.books.specs.declared.fault.BookFault.TheVariants.{NoDefinition}
@@ -38,8 +38,8 @@ end_of size rows bodies =
 
 -- then the book is tested as one in memory is
 abbrev pub TestsEnd : Limits → ℕ → List Row → List ℕ → Tested → Type 0
-TestsEnd within size rows bodies (Ok u) = (end_of size rows bodies ≡ passes) × Comes-tested within (book_of rows bodies) (Ok u)
-TestsEnd within size rows bodies (Err e) = (end_of size rows bodies ≡ Err e) ⊎ ((end_of size rows bodies ≡ passes) × Comes-tested within (book_of rows bodies) (Err e))
+TestsEnd within size rows bodies (Ok u) = (end_of size rows bodies ≡ passes) × ComesTested within (book_of rows bodies) (Ok u)
+TestsEnd within size rows bodies (Err e) = (end_of size rows bodies ≡ Err e) ⊎ ((end_of size rows bodies ≡ passes) × ComesTested within (book_of rows bodies) (Err e))
 
 -- what the file comes to, and where it stands for something, what is answered and left
 pub record GrantedRead {K : Type 0} (kind : Kind K) (patterns : ℕ) (bytes : List ℕ) (before after : Memory K) (counts : BookCounts) : Type 0 where

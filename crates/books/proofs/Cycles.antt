@@ -1,6 +1,6 @@
 -- The lowest row that needs itself is a variable.
 use Rattle.std.proofs.Common.{◌≡◌, ℕ, zero, suc, ◌+◌, ◌<◌, ◌≤◌, min, Bool, true, false, ◌⊎◌, List, [], ◌∷◌, length, get_or, Some, None, sym, refl, ap, ◌∙◌, subst, inl, inr, ⊎_elim, arith}
-use Rattle.std.specs.List.{AllByRecursion as All}
+use Rattle.std.specs.List.{AllByRecursion}
 use Rattle.std.proofs.lemmas.Bool.{eqb-true, eq-eqb, cases_lt, both_ways}
 use Rattle.std.proofs.lemmas.List.{get_or_default}
 use Rattle.rules.specs.declared.row.Row.{Row}
@@ -42,7 +42,7 @@ module _ (book : Book) where
       )
 
   -- what a row needs is below it, unless it is a variable
-  below : (s m : ℕ) (to : Reach) → All (λ o. o < s) (named to) → m ∈ needed book to → ((v : ℕ) × (to ≡ body v)) ⊎ (m < s)
+  below : (s m : ℕ) (to : Reach) → AllByRecursion (λ o. o < s) (named to) → m ∈ needed book to → ((v : ℕ) × (to ≡ body v)) ⊎ (m < s)
   below s m nothing lower mem = elim mem [ ]
   below s m (inner o) lower mem = elim mem [ ]
   below s m (both a b) lower mem = inr (all_in (λ o. o < s) (a ∷ b ∷ []) lower mem)
@@ -69,7 +69,7 @@ module _ (book : Book) where
           row = s;
           variable = var.0;
           low = omega arith;
-          defined = (subst (λ to. All (λ v. v < length book.definitions) (called to)) var.1 (joined.defined s h)).0;
+          defined = (subst (λ to. AllByRecursion (λ v. v < length book.definitions) (called to)) var.1 (joined.defined s h)).0;
           names_it = ap (λ to. names to var.0) var.1 ∙ eq-eqb var.0 var.0 refl;
           itself = n;
         })

@@ -3,7 +3,7 @@ use Rattle.std.proofs.Common.{◌≡◌, ℕ, zero, suc, ◌+◌, ◌<◌, ◌�
 use Rattle.std.proofs.lemmas.List.{get_or_default}
 use Rattle.std.proofs.lemmas.Bool.{ltb-true, lt-ltb, leb-true, le-leb, eqb-false, ne_eqb, not-true, not_from_false, and_parts, and_from, cases_order}
 use Rattle.std.specs.Result.{result_and}
-use Rattle.std.specs.List.{AllByRecursion as All}
+use Rattle.std.specs.List.{AllByRecursion}
 use Rattle.rules.specs.Book.{Book, Limits, Reach, nothing, inner, both, negated, body, reach, called, row_at, body_at, operands, variables, IfThere, Ended, Numbered, Allowed, Guarded, Sealed}
 use Rattle.rules.specs.declared.row.Bounds.{Bounds}
 use Rattle.rules.specs.declared.row.Range.{Range}
@@ -94,7 +94,7 @@ module _ (limits : Limits) (at : ℕ) where
       (there_back limits.numbers bounds.lower h.0) (there_back limits.numbers bounds.upper h.1)
 
   -- a row that fits keeps its rules
-  fit_rules : (row : Row) → row_fits limits.patterns limits.numbers at row ≡ true → row_above limits row ≡ true → Allowed limits row × All (λ o. o < at) (operands row)
+  fit_rules : (row : Row) → row_fits limits.patterns limits.numbers at row ≡ true → row_above limits row ≡ true → Allowed limits row × AllByRecursion (λ o. o < at) (operands row)
   fit_rules True h u = (tt, tt)
   fit_rules False h u = (tt, tt)
   fit_rules (OfType t) h u = (tt, tt)
@@ -118,7 +118,7 @@ module _ (limits : Limits) (at : ℕ) where
   fit_rules (Variable v) h u = (tt, tt)
 
   -- and a row that keeps them fits
-  rules_fit : (row : Row) → Allowed limits row → All (λ o. o < at) (operands row) → (row_fits limits.patterns limits.numbers at row ≡ true) × (row_above limits row ≡ true)
+  rules_fit : (row : Row) → Allowed limits row → AllByRecursion (λ o. o < at) (operands row) → (row_fits limits.patterns limits.numbers at row ≡ true) × (row_above limits row ≡ true)
   rules_fit True h l = (refl, refl)
   rules_fit False h l = (refl, refl)
   rules_fit (OfType t) h l = (refl, refl)
@@ -141,24 +141,24 @@ module _ (limits : Limits) (at : ℕ) where
   rules_fit (Not o) h l = (lt-ltb o at l.0, refl)
   rules_fit (Variable v) h l = (refl, refl)
 
-  pub row_passes : (place : ℕ) (row : Row) → row_test limits at place row ≡ passes → Allowed limits row × All (λ o. o < at) (operands row)
+  pub row_passes : (place : ℕ) (row : Row) → row_test limits at place row ≡ passes → Allowed limits row × AllByRecursion (λ o. o < at) (operands row)
   row_passes place row h =
       let t = both_pass (ask (row_fits limits.patterns limits.numbers at row) _) (ask (row_above limits row) _) h in
       fit_rules row (asked (row_fits limits.patterns limits.numbers at row) _ t.0) (asked (row_above limits row) _ t.1)
 
-  pub passes_row : (place : ℕ) (row : Row) → Allowed limits row → All (λ o. o < at) (operands row) → row_test limits at place row ≡ passes
+  pub passes_row : (place : ℕ) (row : Row) → Allowed limits row → AllByRecursion (λ o. o < at) (operands row) → row_test limits at place row ≡ passes
   passes_row place row h l =
       let t = rules_fit row h l in
       pass_both (ask (row_fits limits.patterns limits.numbers at row) _) (ask (row_above limits row) _) (asks (row_fits limits.patterns limits.numbers at row) _ t.0) (asks (row_above limits row) _ t.1)
 
-pub call_from : (d place : ℕ) (to : Reach) → call_test d place to ≡ passes → All (λ v. v < d) (called to)
+pub call_from : (d place : ℕ) (to : Reach) → call_test d place to ≡ passes → AllByRecursion (λ v. v < d) (called to)
 call_from d place nothing h = tt
 call_from d place (inner o) h = tt
 call_from d place (both a b) h = tt
 call_from d place (negated o) h = tt
 call_from d place (body v) h = (ltb-true v d (asked (ltb v d) _ h), tt)
 
-pub call_back : (d place : ℕ) (to : Reach) → All (λ v. v < d) (called to) → call_test d place to ≡ passes
+pub call_back : (d place : ℕ) (to : Reach) → AllByRecursion (λ v. v < d) (called to) → call_test d place to ≡ passes
 call_back d place nothing h = refl
 call_back d place (inner o) h = refl
 call_back d place (both a b) h = refl
@@ -172,8 +172,8 @@ pub record Kept (limits : Limits) (book : Book) : Type 0 where
   pub some_definition : 1 ≤ length book.definitions
   pub few_definitions : length book.definitions ≤ 128
   pub allowed : (r : ℕ) → r < length book.rows → Allowed limits (row_at book r)
-  pub lower : (r : ℕ) → r < length book.rows → All (λ o. o < r) (operands (row_at book r))
-  pub defined : (r : ℕ) → r < length book.rows → All (λ v. v < length book.definitions) (variables (row_at book r))
+  pub lower : (r : ℕ) → r < length book.rows → AllByRecursion (λ o. o < r) (operands (row_at book r))
+  pub defined : (r : ℕ) → r < length book.rows → AllByRecursion (λ v. v < length book.definitions) (variables (row_at book r))
   pub bodies : (v : ℕ) → v < length book.definitions → body_at book v < length book.rows
 
 -- what passes has at most so many items
@@ -316,7 +316,7 @@ any_above p n (Not o) = refl
 any_above p n (Variable v) = refl
 
 module _ (limits : Limits) (book : Book) where
-  counted : (r : ℕ) → Allowed limits (row_at book r) → All (λ o. o < r) (operands (row_at book r)) → Allowed (counts limits.patterns limits.numbers) (row_at book r)
+  counted : (r : ℕ) → Allowed limits (row_at book r) → AllByRecursion (λ o. o < r) (operands (row_at book r)) → Allowed (counts limits.patterns limits.numbers) (row_at book r)
   counted r h l =
       (fit_rules (counts limits.patterns limits.numbers) r (row_at book r) (rules_fit limits r (row_at book r) h l).0 (any_above limits.patterns limits.numbers (row_at book r))).0
 

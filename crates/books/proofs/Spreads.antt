@@ -1,6 +1,6 @@
 -- How marks spread: a visit keeps what is known of them.
 use Rattle.std.proofs.Common.{◌≡◌, ℕ, zero, suc, ◌+◌, ◌-◌, ◌<◌, ◌≤◌, Bool, true, false, cond, ◌≢◌, ◌⊎◌, List, [], ◌∷◌, ◌++◌, length, get_or, set, replicate, Some, None, Option, sym, refl, ap, ◌∙◌, subst, inl, inr, ⊎_elim, arith}
-use Rattle.std.specs.List.{AllByRecursion as All}
+use Rattle.std.specs.List.{AllByRecursion}
 use Rattle.std.proofs.lemmas.List.{append-nil, length-set, get_or-set_same, get_or-set_other, get_or_past}
 use Rattle.std.proofs.lemmas.List.Sums.{sum_by-set, get_or-le-sum_by}
 use Rattle.std.proofs.ByRecursion.{sum_by_le}
@@ -152,13 +152,13 @@ module _ (book : Book) (start : ℕ) where
         closed = λ i m. inl (0, omega arith, get_or-set_same stack 0 start 0 (omega (arith, blank.0, blank.1)) ∙ sym (only i m));
       })
     where
-      each_few : (bs : List Bool) → All (λ b. cond b 0 1 ≤ 1) bs
+      each_few : (bs : List Bool) → AllByRecursion (λ b. cond b 0 1 ≤ 1) bs
       each_few [] = tt
       each_few (true ∷ bs) = (omega arith, each_few bs)
       each_few (false ∷ bs) = (omega arith, each_few bs)
 
   -- visiting a row that may be there
-  pub visits : (o : Option ℕ) (os : List ℕ) (w : Work) → Spreading book start (if_there o ++ os) w → All (λ x. (x < length book.rows) × Reaches book start x) (if_there o) →
+  pub visits : (o : Option ℕ) (os : List ℕ) (w : Work) → Spreading book start (if_there o ++ os) w → AllByRecursion (λ x. (x < length book.rows) × Reaches book start x) (if_there o) →
       EveryRoom o w × (Spreading book start os (visit_all (if_there o) w) × (left (visit_all (if_there o) w) ≡ left w))
   visits None os w s h = (tt, (s, refl))
   visits (Some o) os w s h = (has_room (o ∷ os) w o s h.0.0, visit_keeps os w o s h.0.0 h.0.1)
@@ -167,7 +167,7 @@ module _ (book : Book) (start : ℕ) where
   onward r o (inl e) mem = inr (direct (subst (λ k. o ∈ needs book (row_at book k)) e mem))
   onward r o (inr n) mem = inr (then o n mem)
 
-  halves : (P : ℕ → Type 0) (a b : Option ℕ) → All P (if_there a ++ if_there b) → All P (if_there a) × All P (if_there b)
+  halves : (P : ℕ → Type 0) (a b : Option ℕ) → AllByRecursion P (if_there a ++ if_there b) → AllByRecursion P (if_there a) × AllByRecursion P (if_there b)
   halves P None b h = (tt, h)
   halves P (Some x) b h = ((h.0, tt), h.1)
 
@@ -177,9 +177,9 @@ module _ (book : Book) (start : ℕ) where
     top_inside = (s.within (top w) (s.stacked (w.height - 1) (omega arith))).0
 
     module _ (d : Direct) (is : listed d ≡ needs book (row_at book (top w))) where
-      fit : All (λ x. (x < length book.rows) × Reaches book start x) (if_there d.first) × All (λ x. (x < length book.rows) × Reaches book start x) (if_there d.second)
+      fit : AllByRecursion (λ x. (x < length book.rows) × Reaches book start x) (if_there d.first) × AllByRecursion (λ x. (x < length book.rows) × Reaches book start x) (if_there d.second)
       fit = halves (λ x. (x < length book.rows) × Reaches book start x) d.first d.second
-          (subst (All (λ x. (x < length book.rows) × Reaches book start x)) (sym is)
+          (subst (AllByRecursion (λ x. (x < length book.rows) × Reaches book start x)) (sym is)
           (all_each (λ x. (x < length book.rows) × Reaches book start x) (needs book (row_at book (top w))) (λ x mem. (
             all_in (λ o. o < length book.rows) (needs book (row_at book (top w))) (needs_inside book joined (top w) top_inside) mem,
             onward (top w) x (s.within (top w) (s.stacked (w.height - 1) (omega arith))).1 mem,

@@ -1,6 +1,6 @@
 -- The lowest row that needs itself, and what the search for it rests on.
 use Rattle.std.specs.Prelude.{◌≡◌, ℕ, ◌<◌, ◌≤◌, Bool, true, false, ◌⊎◌, List, [], ◌∷◌, ◌++◌, length, Some, None, Option, ◌==◌, ◌≢◌, slice_index_or}
-use Rattle.std.specs.List.{AllByRecursion as All}
+use Rattle.std.specs.List.{AllByRecursion}
 use Rattle.rules.specs.Book.{Book, Reach, nothing, inner, both, negated, body, reach, row_at, body_at, operands, variables, Needs, Guarded}
 use Rattle.rules.specs.declared.row.Row.{Row}
 use Rattle.rules.specs.declared.row.Row.TheVariants.{False}
@@ -12,8 +12,8 @@ book_of rows definitions = record { rows = rows; definitions = definitions }
 -- Rows and definitions name what is there, and a row only rows below it: all of a sealed book but the fields and the guard.
 pub record Joined (book : Book) : Type 0 where
   pub few : length book.rows ≤ 2048
-  pub lower : (r : ℕ) → r < length book.rows → All (λ o. o < r) (operands (row_at book r))
-  pub defined : (r : ℕ) → r < length book.rows → All (λ v. v < length book.definitions) (variables (row_at book r))
+  pub lower : (r : ℕ) → r < length book.rows → AllByRecursion (λ o. o < r) (operands (row_at book r))
+  pub defined : (r : ℕ) → r < length book.rows → AllByRecursion (λ v. v < length book.definitions) (variables (row_at book r))
   pub bodies : (v : ℕ) → v < length book.definitions → body_at book v < length book.rows
 
 -- row r needs itself, and no row below it does

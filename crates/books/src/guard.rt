@@ -1,7 +1,7 @@
 // Finds the lowest row that needs itself.
 ghost use Rattle.std.specs.Prelude.{◌≡◌, ◌+◌, ◌<◌, ◌≤◌, true, false, List, length};
 ghost use Rattle.rules.specs.Book.{needs, variables};
-ghost use Rattle.std.specs.List.{AllByRecursion as All};
+ghost use Rattle.std.specs.List.{AllByRecursion};
 ghost use Rattle.books.specs.Guard.{book_of, if_there, listed, calls as calls_by, Joined, Marked, FirstCall, FirstCycle, Finds};
 ghost use Rattle.books.specs.Spread.{work, visit as visited, visit_all, Room, EveryRoom, Blank};
 
@@ -17,7 +17,7 @@ pub(crate) struct Direct {
 
 // What a row directly needs.
 fn direct_needs(row: Row, definitions: &[u16]) -> Direct
-    requires { All (λ v. v < length definitions.now) (variables row) }
+    requires { AllByRecursion (λ v. v < length definitions.now) (variables row) }
     ensures { (rows : List Row) → listed result ≡ needs (book_of rows definitions.now) row }
 {
     match row {

@@ -1,10 +1,8 @@
 -- Pieces one after another, each repeated, within the limit.
-use Rattle.std.proofs.Common.{◌≡◌, ℕ, zero, suc, ◌+◌, ◌-◌, ◌<◌, ◌≤◌, Bool, true, false, cond, leb, List, [], ◌∷◌, ◌++◌, length, Some, None, Err, Decides, Option, Vec, sym, refl, ap, ◌∙◌, inl, inr, add-one, arith, length-append}
+use Rattle.std.proofs.Common.{◌≡◌, ℕ, zero, suc, ◌+◌, ◌-◌, ◌<◌, ◌≤◌, leb, List, [], ◌∷◌, ◌++◌, length, Some, None, Err, Option, Vec, sym, refl, ap, ◌∙◌, inl, inr, add-one, arith, length-append}
 use Rattle.std.proofs.lemmas.List.{append_assoc, append-nil}
-use Rattle.std.proofs.lemmas.Bool.{cases_Bool, leb-true, leb-false, le-leb, lt-leb, both_ways}
-use Rattle.std.proofs.lemmas.Slice.Eq.{bytes_eq-Decides}
-use Rattle.std.specs.Str.{bytes_eq}
-use Rattle.cases.specs.Bytes.{longest, both, times, limited, piece_bytes, pieces_bytes, bytes_of}
+use Rattle.std.proofs.lemmas.Bool.{cases_Bool, leb-true, leb-false, le-leb, lt-leb}
+use Rattle.cases.specs.Bytes.{longest, both, times, limited, piece_bytes, pieces_bytes}
 use Rattle.cases.specs.Splits.{split}
 use Rattle.cases.specs.Read.{Reads, Grows}
 use Rattle.cases.specs.declared.bytes.BytesFault.{BytesFault}
@@ -104,15 +102,3 @@ pub pieces_done :
 pieces_done done left whole len is within none inv =
     let all : Some done ≡ whole = ap Some (sym (append-nil done)) ∙ rw none at inv in
     rw (← all) (limited_within done (omega arith))
-
--- whether a word is `-`
-pub dash_none : (w : List ℕ) → w ≡ 45 ∷ [] → bytes_of w ≡ Some []
-dash_none w e = rw e
-
-pub no_dash :
-    (w : List ℕ) (r : Bool) → Decides r (w ≡ 45 ∷ []) → r ≡ false → bytes_of w ≡ limited (pieces_bytes (split 46 w))
-no_dash w r decides other =
-    elim (cases_Bool (bytes_eq w (45 ∷ []))) [
-      | inl t ↦ absurd (both_ways r other (decides.1 ((bytes_eq-Decides w (45 ∷ [])).0 t)))
-      | inr f ↦ rw f
-    ]

@@ -1,11 +1,10 @@
 -- Bytes shown as a word, and read back.
-use Rattle.std.proofs.Common.{◌≡◌, ℕ, zero, suc, ◌+◌, ◌-◌, ◌*◌, ◌/◌, ◌%◌, ◌<◌, ◌≤◌, Bool, true, false, cond, ◌&&◌, eqb, ltb, leb, List, [], ◌∷◌, ◌++◌, length, get_or, drop, Some, None, Option, sym, refl, ap, ◌∙◌, inl, inr, arith}
+use Rattle.std.proofs.Common.{◌≡◌, ℕ, zero, suc, ◌+◌, ◌/◌, ◌%◌, ◌<◌, ◌≤◌, true, false, eqb, List, [], ◌∷◌, ◌++◌, length, get_or, drop, Some, sym, refl, ap, ◌∙◌, inl, inr, arith}
 use lib.Utf8.{encode}
 use Rattle.std.proofs.lemmas.List.{append_assoc, append-nil, drop_more, drop_all}
 use Rattle.std.proofs.lemmas.Bool.{cases_lt, le-leb, lt-leb, lt-ltb, le-ltb, ne_eqb, both_ways}
-use Rattle.std.specs.Str.{bytes_eq}
-use Rattle.cases.specs.Bytes.{longest, both, alone, byte_of, hex_digit, pairs, limited, piece_bytes, pieces_bytes, bytes_of, hex_char, hex_text, shown}
-use Rattle.cases.specs.Splits.{Free, split}
+use Rattle.cases.specs.Bytes.{longest, byte_of, hex_digit, pairs, limited, bytes_of, hex_char, hex_text, shown}
+use Rattle.cases.specs.Splits.{Free}
 use Rattle.cases.proofs.Splitting.{split_free}
 use Rattle.cases.proofs.Piecing.{limited_within}
 

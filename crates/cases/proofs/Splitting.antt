@@ -1,9 +1,9 @@
 -- The parts of bytes, and a cut at the first mark.
-use Rattle.std.proofs.Common.{◌≡◌, ℕ, zero, suc, ◌+◌, ◌-◌, ◌<◌, Bool, true, false, cond, eqb, List, [], ◌∷◌, ◌++◌, length, get_or, take, drop, sym, refl, ap, ◌∙◌, inl, inr, arith}
+use Rattle.std.proofs.Common.{◌≡◌, ℕ, zero, suc, ◌+◌, ◌-◌, ◌<◌, List, [], ◌∷◌, ◌++◌, length, get_or, take, drop, sym, refl, ap, ◌∙◌, inl, inr, arith}
 use native.Mathlib.Nat.{sub-zero}
 use Rattle.std.proofs.lemmas.Bool.{ne_eqb, eq-eqb, cases_eq}
 use Rattle.std.proofs.lemmas.List.{take-append-drop, drop_more, length-take, get_or-take, take_rest}
-use Rattle.cases.specs.Splits.{Free, joined_by, Parted, grown, split}
+use Rattle.cases.specs.Splits.{Free, Parted, grown, split}
 
 free_tail : (mark b : ℕ) (bs : List ℕ) → Free mark (b ∷ bs) → Free mark bs
 free_tail mark b bs f = λ k h e. f (suc k) (omega arith) e

@@ -131,7 +131,7 @@ fn read_pieces(heap: Global, word: &[u8]) -> Result<Vec<u8>, BytesFault>
 pub fn read_bytes(heap: Global, word: &[u8]) -> Result<Vec<u8>, BytesFault>
     ensures { Reads (bytes_of word.now) result }
 {
-    if word == b"-" {
+    if word == b"-".as_slice() {
         return Ok(Vec::new(heap));
     }
     read_pieces(heap, word)

@@ -41,45 +41,45 @@ last_is (b ∷ bs) h = refl
 module _ {S : Type 0} (sorts : List S) (word : S → List ℕ) (comes : S → List (List ℕ) → List ℕ → List ℕ → Type 0) where
   -- what is run from here on is run from the start
   abbrev pub Onward : ℕ → List ℕ → List Tally → List ℕ → List ℕ → List Tally → List ℕ → Type 0
-  Onward number rest ts text input start-ts start-text =
-      (end-ts : List Tally) (end-text : List ℕ) → Runs sorts word comes number (lines_of rest) ts text end-ts end-text
-      → Runs sorts word comes 1 (lines_of input) start-ts start-text end-ts end-text
+  Onward number rest ts text input start_ts start_text =
+      (end_ts : List Tally) (end_text : List ℕ) → Runs sorts word comes number (lines_of rest) ts text end_ts end_text
+      → Runs sorts word comes 1 (lines_of input) start_ts start_text end_ts end_text
 
   pub onward :
-      (number next : ℕ) (rest first after input : List ℕ) (ts mid-ts start-ts : List Tally) (text mid-text start-text : List ℕ)
-      → split 10 rest ≡ first ∷ split 10 after → next ≡ sum number 1 → Steps sorts word comes number first ts text mid-ts mid-text
-      → Onward number rest ts text input start-ts start-text → Onward next after mid-ts mid-text input start-ts start-text
-  onward number next rest first after input ts mid-ts start-ts text mid-text start-text is counts step inv end-ts end-text runs =
-      inv end-ts end-text
+      (number next : ℕ) (rest first after input : List ℕ) (ts mid_ts start_ts : List Tally) (text mid_text start_text : List ℕ)
+      → split 10 rest ≡ first ∷ split 10 after → next ≡ sum number 1 → Steps sorts word comes number first ts text mid_ts mid_text
+      → Onward number rest ts text input start_ts start_text → Onward next after mid_ts mid_text input start_ts start_text
+  onward number next rest first after input ts mid_ts start_ts text mid_text start_text is counts step inv end_ts end_text runs =
+      inv end_ts end_text
       (rw (lines_cut rest first after is)
-      (more number first (lines_of after) ts mid-ts end-ts text mid-text end-text step (rw (← counts) runs)))
+      (more number first (lines_of after) ts mid_ts end_ts text mid_text end_text step (rw (← counts) runs)))
 
   -- no line is left
   pub ended :
-      (number : ℕ) (rest input : List ℕ) (ts start-ts : List Tally) (text start-text : List ℕ) → split 10 rest ≡ rest ∷ [] → true ≡ eqb (length rest) 0
-      → Onward number rest ts text input start-ts start-text → Runs sorts word comes 1 (lines_of input) start-ts start-text ts text
-  ended number rest input ts start-ts text start-text is none inv =
+      (number : ℕ) (rest input : List ℕ) (ts start_ts : List Tally) (text start_text : List ℕ) → split 10 rest ≡ rest ∷ [] → true ≡ eqb (length rest) 0
+      → Onward number rest ts text input start_ts start_text → Runs sorts word comes 1 (lines_of input) start_ts start_text ts text
+  ended number rest input ts start_ts text start_text is none inv =
       inv ts text (rw (is, nil_from_length rest (eqb-true (length rest) 0 (sym none))) (over number ts text))
 
   -- an open line is left
   pub ended_open :
-      (number : ℕ) (rest input : List ℕ) (ts end-ts start-ts : List Tally) (text end-text start-text : List ℕ) → split 10 rest ≡ rest ∷ [] → false ≡ eqb (length rest) 0
-      → Steps sorts word comes number rest ts text end-ts end-text
-      → Onward number rest ts text input start-ts start-text → Runs sorts word comes 1 (lines_of input) start-ts start-text end-ts end-text
-  ended_open number rest input ts end-ts start-ts text end-text start-text is some step inv =
-      inv end-ts end-text
-      (rw (is, last_is rest (omega (arith, eqb-false (length rest) 0 (sym some)))) (more number rest [] ts end-ts end-ts text end-text end-text step (over (sum number 1) end-ts end-text)))
+      (number : ℕ) (rest input : List ℕ) (ts end_ts start_ts : List Tally) (text end_text start_text : List ℕ) → split 10 rest ≡ rest ∷ [] → false ≡ eqb (length rest) 0
+      → Steps sorts word comes number rest ts text end_ts end_text
+      → Onward number rest ts text input start_ts start_text → Runs sorts word comes 1 (lines_of input) start_ts start_text end_ts end_text
+  ended_open number rest input ts end_ts start_ts text end_text start_text is some step inv =
+      inv end_ts end_text
+      (rw (is, last_is rest (omega (arith, eqb-false (length rest) 0 (sym some)))) (more number rest [] ts end_ts end_ts text end_text end_text step (over (sum number 1) end_ts end_text)))
 
   -- the counts are printed last
   pub reported :
-      (input : List ℕ) (start end-ts : List Tally) (none text counts pushed report : List ℕ) → none ≡ []
-      → Runs sorts word comes 1 (lines_of input) start none end-ts text → counts ≡ counts_text (name_at sorts word) end-ts → pushed ≡ counts
+      (input : List ℕ) (start end_ts : List Tally) (none text counts pushed report : List ℕ) → none ≡ []
+      → Runs sorts word comes 1 (lines_of input) start none end_ts text → counts ≡ counts_text (name_at sorts word) end_ts → pushed ≡ counts
       → report ≡ text ++ pushed → ReportsFrom sorts word comes start input report
-  reported input start end-ts none text counts pushed report empty runs shown same grew =
+  reported input start end_ts none text counts pushed report empty runs shown same grew =
       record {
-        tallies = end-ts;
+        tallies = end_ts;
         text = text;
-        runs = subst (λ t. Runs sorts word comes 1 (lines_of input) start t end-ts text) empty runs;
+        runs = subst (λ t. Runs sorts word comes 1 (lines_of input) start t end_ts text) empty runs;
         counts = grew ∙ ap (λ (t : List ℕ). text ++ t) (same ∙ shown);
       }
 

@@ -18,11 +18,11 @@ made_so (Err y) f a = tt
 -- a case that differs is counted and printed
 pub noted :
     {S : Type 0} (sorts : List S) (word : S → List ℕ) (comes : S → List (List ℕ) → List ℕ → List ℕ → Type 0) (place number : ℕ)
-    (expected came : List ℕ) (ts now-ts : List Tally) (text now-text : List ℕ) (differs : Bool) (name e c line pushed : List ℕ)
-    → differs ≡ true → Decides (not differs) (expected ≡ came) → now-ts ≡ counted_at ts place differs
+    (expected came : List ℕ) (ts now_ts : List Tally) (text now_text : List ℕ) (differs : Bool) (name e c line pushed : List ℕ)
+    → differs ≡ true → Decides (not differs) (expected ≡ came) → now_ts ≡ counted_at ts place differs
     → name ≡ name_at sorts word place → e ≡ expected → c ≡ came → line ≡ differing_line name number e c → pushed ≡ line
-    → now-text ≡ text ++ pushed → Notes sorts word comes place number expected came ts text now-ts now-text
-noted sorts word comes place number expected came ts now-ts text now-text differs name e c line pushed taken decides counts named is-e is_c shown same grew =
+    → now_text ≡ text ++ pushed → Notes sorts word comes place number expected came ts text now_ts now_text
+noted sorts word comes place number expected came ts now_ts text now_text differs name e c line pushed taken decides counts named is-e is_c shown same grew =
     differing (λ alike. both_ways (not differs) (ap not taken) (decides.1 alike)) (counts ∙ ap (counted_at ts place) taken)
     (grew ∙ ap (λ (t : List ℕ). text ++ t) (same ∙ shown ∙ rw (named, is-e, is_c)))
 

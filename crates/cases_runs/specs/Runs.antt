@@ -1,5 +1,5 @@
 -- What a run of lines comes to.
-use Rattle.std.specs.Prelude.{◌≡◌, ℕ, ◌+◌, Bool, true, false, List, [], ◌∷◌, ◌++◌, length, drop, replicate, Some, None, Option, ◌≢◌, slice_index, slice_index_or, slice_set}
+use Rattle.std.specs.Prelude.{◌≡◌, ℕ, ◌+◌, Bool, true, false, List, [], ◌∷◌, ◌++◌, length, drop, replicate, Some, ◌≢◌, slice_index, slice_index_or, slice_set}
 use Rattle.std.specs.List.{slice_get}
 use Rattle.cases.specs.Splits.{split}
 use Rattle.cases.specs.Tallies.{sum, no_cases, counted}
@@ -31,7 +31,7 @@ counted_at ts place differs = slice_set ts place (counted (slice_index_or ts pla
 
 -- a line that can't be read is counted as one that differs, after the sorts, and printed
 abbrev pub NotesUnread : ℕ → ℕ → List Tally → List ℕ → List Tally → List ℕ → Type 0
-NotesUnread place number ts text now-ts now-text = (now-ts ≡ counted_at ts place true) × (now-text ≡ text ++ unread_line number)
+NotesUnread place number ts text now_ts now_text = (now_ts ≡ counted_at ts place true) × (now_text ≡ text ++ unread_line number)
 
 -- A program's sorts of case, in the order of its report; their words; and what is expected and what comes, of the words after the tag.
 module _ {S : Type 0} (sorts : List S) (word : S → List ℕ) (comes : S → List (List ℕ) → List ℕ → List ℕ → Type 0) where
@@ -44,23 +44,23 @@ module _ {S : Type 0} (sorts : List S) (word : S → List ℕ) (comes : S → Li
     pub ran : comes sort (drop 3 (split 32 line)) expected came
 
   -- a case is counted, and printed where it differs
-  pub data Notes (place number : ℕ) (expected came : List ℕ) (ts : List Tally) (text : List ℕ) (now-ts : List Tally) (now-text : List ℕ) : Type 0 where
-    alike : expected ≡ came → now-ts ≡ counted_at ts place false → now-text ≡ text → Notes place number expected came ts text now-ts now-text
-    differing : (expected ≢ came) → now-ts ≡ counted_at ts place true → now-text ≡ text ++ differing_line (name_at sorts word place) number expected came →
-        Notes place number expected came ts text now-ts now-text
+  pub data Notes (place number : ℕ) (expected came : List ℕ) (ts : List Tally) (text : List ℕ) (now_ts : List Tally) (now_text : List ℕ) : Type 0 where
+    alike : expected ≡ came → now_ts ≡ counted_at ts place false → now_text ≡ text → Notes place number expected came ts text now_ts now_text
+    differing : (expected ≢ came) → now_ts ≡ counted_at ts place true → now_text ≡ text ++ differing_line (name_at sorts word place) number expected came →
+        Notes place number expected came ts text now_ts now_text
 
   -- A line leads from tallies and a text to others. A remark changes nothing.
-  pub data Steps (number : ℕ) (line : List ℕ) (ts : List Tally) (text : List ℕ) (now-ts : List Tally) (now-text : List ℕ) : Type 0 where
-    remark : Remark line → now-ts ≡ ts → now-text ≡ text → Steps number line ts text now-ts now-text
+  pub data Steps (number : ℕ) (line : List ℕ) (ts : List Tally) (text : List ℕ) (now_ts : List Tally) (now_text : List ℕ) : Type 0 where
+    remark : Remark line → now_ts ≡ ts → now_text ≡ text → Steps number line ts text now_ts now_text
     judged : (Remark line → ⊥) → (place n : ℕ) (expected came : List ℕ) → Judged line place n expected came →
-        Notes place n expected came ts text now-ts now-text → Steps number line ts text now-ts now-text
-    unread : (Remark line → ⊥) → NotesUnread (length sorts) number ts text now-ts now-text → Steps number line ts text now-ts now-text
+        Notes place n expected came ts text now_ts now_text → Steps number line ts text now_ts now_text
+    unread : (Remark line → ⊥) → NotesUnread (length sorts) number ts text now_ts now_text → Steps number line ts text now_ts now_text
 
   -- lines, from this line number on
   pub data Runs : ℕ → List (List ℕ) → List Tally → List ℕ → List Tally → List ℕ → Type 0 where
     over : (number : ℕ) (ts : List Tally) (text : List ℕ) → Runs number [] ts text ts text
-    more : (number : ℕ) (line : List ℕ) (lines : List (List ℕ)) (ts mid-ts end-ts : List Tally) (text mid-text end-text : List ℕ) →
-        Steps number line ts text mid-ts mid-text → Runs (sum number 1) lines mid-ts mid-text end-ts end-text → Runs number (line ∷ lines) ts text end-ts end-text
+    more : (number : ℕ) (line : List ℕ) (lines : List (List ℕ)) (ts mid_ts end_ts : List Tally) (text mid_text end_text : List ℕ) →
+        Steps number line ts text mid_ts mid_text → Runs (sum number 1) lines mid_ts mid_text end_ts end_text → Runs number (line ∷ lines) ts text end_ts end_text
 
   -- all lines are run one after another, from these tallies on, and then the counts are printed
   pub record ReportsFrom (start : List Tally) (input report : List ℕ) : Type 0 where

@@ -1,4 +1,6 @@
 // What the programs that run test vectors share: the words of their lines, the run of all lines, and its report.
+#![tactic(auto)]
+
 pub mod fault;
 pub mod kind;
 pub mod program;

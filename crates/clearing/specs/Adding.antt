@@ -1,6 +1,6 @@
 -- What a row adds, as the code has it.
 use Rattle.std.specs.Prelude.{ℕ, ◌<◌, ◌≤◌, take, None, Option}
-use Rattle.std.specs.List.{AllByRecursion as All}
+use Rattle.std.specs.List.{AllByRecursion}
 use Rattle.rules.specs.declared.place.Place.{Place}
 use Rattle.rules.specs.declared.row.Range.{Range}
 use Rattle.rules.specs.declared.row.Bounds.{Bounds}
@@ -46,7 +46,7 @@ upper_end (Variable v) = None
 
 -- a row whose complement can be written down, where there are d definitions
 abbrev pub Plain : ℕ → Row → Type 0
-Plain d row = EndsBelow (upper_end row) × All (λ v. v < d) (variables row)
+Plain d row = EndsBelow (upper_end row) × AllByRecursion (λ v. v < d) (variables row)
 
 abbrev pub nowhere : Place
 nowhere = clear.place 0 0

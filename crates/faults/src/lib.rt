@@ -1,4 +1,6 @@
 // What every refused call tells: a number, a place and a layer.
+#![tactic(auto)]
+
 ghost use Rattle.std.specs.Prelude.{◌≡◌, Some};
 ghost use Rattle.faults.specs.Refusals.{layer_number, refusal_line};
 

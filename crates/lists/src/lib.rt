@@ -1,2 +1,4 @@
 // Lists of numbers of one kind.
+#![tactic(auto)]
+
 pub mod numbers;

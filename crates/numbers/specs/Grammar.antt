@@ -1,7 +1,7 @@
 -- What a JSON number token is: `number` of RFC 8259, section 6, production by production, over bytes.
 use Rattle.std.specs.Prelude.{◌≡◌, ℕ, ◌⊎◌, List, [], ◌∷◌, ◌++◌}
 use Rattle.std.specs.Int.{IsInRange}
-use Rattle.std.specs.List.{AllByRecursion as All}
+use Rattle.std.specs.List.{AllByRecursion}
 
 -- DIGIT = %x30-39
 abbrev pub Digit : ℕ → Type 0
@@ -17,7 +17,7 @@ E b = (b ≡ 0x65) ⊎ (b ≡ 0x45)
 
 -- *DIGIT
 abbrev pub Digits : List ℕ → Type 0
-Digits bs = All Digit bs
+Digits bs = AllByRecursion Digit bs
 
 -- 1*DIGIT
 abbrev pub SomeDigits : List ℕ → Type 0

@@ -1,1 +1,3 @@
+#![tactic(auto)]
+
 // What number tokens and number kinds are: theory alone. The calls of the kinds promise what is proved here.

@@ -16,9 +16,9 @@ matches names masks k text = cond (nat_lt k (length names)) (bytes_eq (slice_ind
 
 -- the same by the parts of two files
 abbrev pub side_by_side : List ℕ → List Part → List ℕ → List Part → List ℕ → List ℕ
-side_by_side names name-parts masks mask-parts input =
-    let count = pair_count (part_count name-parts) (part_count mask-parts) in
-    report count (answer count (pair_holds (part_count name-parts) (name_holds names name-parts) (masked masks mask-parts))) input
+side_by_side names name_parts masks mask_parts input =
+    let count = pair_count (part_count name_parts) (part_count mask_parts) in
+    report count (answer count (pair_holds (part_count name_parts) (name_holds names name_parts) (masked masks mask_parts))) input
 
 abbrev pub refused_line : PatternFault → List ℕ
 refused_line fault = refusal_line (refusal_of fault) ++ 10 ∷ []

@@ -1,6 +1,6 @@
 -- Two lawful tables agree.
 use Rattle.std.proofs.Common.{◌≡◌, ℕ, Bool, not, ◌&&◌, ◌||◌, List, sym, refl, ap, ◌∙◌, ap₂}
-use Rattle.std.specs.List.{AllByRecursion as All}
+use Rattle.std.specs.List.{AllByRecursion}
 use Rattle.std.proofs.ByRecursion.{All-weaker}
 use Rattle.rules.specs.declared.row.Row.{Row}
 use Rattle.rules.specs.declared.row.Row.TheVariants.{True, False, OfType, BooleanIs, Pattern, NotPattern, Length, Between, StrictlyBetween, Multiple, NotMultiple, EveryMember, SomeMember, Members, EveryElement, SomeElement, Count, And, Or, Not, Variable}
@@ -14,21 +14,21 @@ use Rattle.rules.proofs.Descent.{descent}
 
 -- a row says the same by two tables that agree at what it looks at
 module _ {K : Type 0} (world : World K) (book : Book) (V W : Verdicts) (n : ℕ) where
-  elements : (o : ℕ) (f g : List ℕ → Bool) → ((es : List ℕ) → All (λ m. V o m ≡ W o m) es → f es ≡ g es) →
-      All (λ m. V o m ≡ W o m) (parts (value_at world n)) →
+  elements : (o : ℕ) (f g : List ℕ → Bool) → ((es : List ℕ) → AllByRecursion (λ m. V o m ≡ W o m) es → f es ≡ g es) →
+      AllByRecursion (λ m. V o m ≡ W o m) (parts (value_at world n)) →
       Rattle.rules.specs.Meaning.passes (as_list (value_at world n)) f ≡ Rattle.rules.specs.Meaning.passes (as_list (value_at world n)) g
   elements o f g same h =
       passes_same (as_list (value_at world n)) f g
-      (weaker (as_list (value_at world n)) (λ es. All (λ m. V o m ≡ W o m) es) (λ es. f es ≡ g es) same (in_list (value_at world n) (λ m. V o m ≡ W o m) h))
+      (weaker (as_list (value_at world n)) (λ es. AllByRecursion (λ m. V o m ≡ W o m) es) (λ es. f es ≡ g es) same (in_list (value_at world n) (λ m. V o m ≡ W o m) h))
 
-  members : (o : ℕ) (f g : List Member → Bool) → ((ms : List Member) → All (λ m. V o m.node ≡ W o m.node) ms → f ms ≡ g ms) →
-      All (λ m. V o m ≡ W o m) (parts (value_at world n)) →
+  members : (o : ℕ) (f g : List Member → Bool) → ((ms : List Member) → AllByRecursion (λ m. V o m.node ≡ W o m.node) ms → f ms ≡ g ms) →
+      AllByRecursion (λ m. V o m ≡ W o m) (parts (value_at world n)) →
       Rattle.rules.specs.Meaning.passes (as_object (value_at world n)) f ≡ Rattle.rules.specs.Meaning.passes (as_object (value_at world n)) g
   members o f g same h =
       passes_same (as_object (value_at world n)) f g
-      (weaker (as_object (value_at world n)) (λ ms. All (λ m. V o m.node ≡ W o m.node) ms) (λ ms. f ms ≡ g ms) same (in_object (value_at world n) (λ m. V o m ≡ W o m) h))
+      (weaker (as_object (value_at world n)) (λ ms. AllByRecursion (λ m. V o m.node ≡ W o m.node) ms) (λ ms. f ms ≡ g ms) same (in_object (value_at world n) (λ m. V o m ≡ W o m) h))
 
-  pub says_same : (row : Row) → All (λ o. V o n ≡ W o n) (needs book row) → All (λ o. All (λ m. V o m ≡ W o m) (parts (value_at world n))) (operands row) →
+  pub says_same : (row : Row) → AllByRecursion (λ o. V o n ≡ W o n) (needs book row) → AllByRecursion (λ o. AllByRecursion (λ m. V o m ≡ W o m) (parts (value_at world n))) (operands row) →
       says world book V row n ≡ says world book W row n
   says_same True h b = refl
   says_same False h b = refl

@@ -1,6 +1,6 @@
 -- Clearing keeps the fields of rows within their limits.
 use Rattle.std.proofs.Common.{ℕ, zero, suc, ◌<◌, ◌≤◌, List, [], ◌∷◌, length, Some, None, Option, arith}
-use Rattle.std.specs.List.{AllByRecursion as All}
+use Rattle.std.specs.List.{AllByRecursion}
 use Rattle.std.proofs.ByRecursion.{All-append}
 use Rattle.rules.specs.declared.row.ValueType.{ValueType}
 use Rattle.rules.specs.declared.row.ValueType.TheVariants.{Number, Text, List as Listed, Object}
@@ -15,7 +15,7 @@ use Rattle.rules.proofs.Tests.{weaker}
 
 module _ (limits : Limits) where
   outside_allowed : (t : ValueType) (s : ℕ) (row : Row) (low high : Option Row) → Allowed limits row → IfThere low (Allowed limits) → IfThere high (Allowed limits) →
-      All (Allowed limits) (outside t s row low high).rows
+      AllByRecursion (Allowed limits) (outside t s row low high).rows
   outside_allowed t s row None None h l u = (h, tt)
   outside_allowed t s row (Some low) None h l u = (h, (l, (tt, tt)))
   outside_allowed t s row None (Some high) h l u = (h, (u, (tt, tt)))
@@ -42,19 +42,19 @@ module _ (limits : Limits) where
   over_numbered (Some i) h = (h, tt)
 
   range_allowed : (t : ValueType) (s : ℕ) (row : Range → Row) → ((range : Range) → Ended range → Allowed limits (row range)) → (range : Range) → Ended range →
-      All (Allowed limits) (around_range t s row range).rows
+      AllByRecursion (Allowed limits) (around_range t s row range).rows
   range_allowed t s row f range h = outside_allowed t s (row range) (side row (below range.lower)) (side row (above range.upper)) (f range h)
       (side_allowed row (below range.lower) (weaker (below range.lower) Ended _ f (below_ended range.lower h.0)))
       (side_allowed row (above range.upper) (weaker (above range.upper) Ended _ f (above_ended range.upper h.1)))
 
   bounds_allowed : (s : ℕ) (row back : Bounds → Row) → ((bounds : Bounds) → Numbered limits bounds → Allowed limits (row bounds)) →
       ((bounds : Bounds) → Numbered limits bounds → Allowed limits (back bounds)) → (bounds : Bounds) → Numbered limits bounds →
-      All (Allowed limits) (around_bounds s row back bounds).rows
+      AllByRecursion (Allowed limits) (around_bounds s row back bounds).rows
   bounds_allowed s row back f g bounds h = outside_allowed Number s (row bounds) (side back (under bounds.lower)) (side back (over bounds.upper)) (f bounds h)
       (side_allowed back (under bounds.lower) (weaker (under bounds.lower) (Numbered limits) _ g (under_numbered bounds.lower h.0)))
       (side_allowed back (over bounds.upper) (weaker (over bounds.upper) (Numbered limits) _ g (over_numbered bounds.upper h.1)))
 
-  row_allowed : (f : ℕ → Place) (d s : ℕ) (row : Row) → Allowed limits row → All (Allowed limits) (adds f d s row).rows
+  row_allowed : (f : ℕ → Place) (d s : ℕ) (row : Row) → Allowed limits row → AllByRecursion (Allowed limits) (adds f d s row).rows
   row_allowed f d s True h = tt
   row_allowed f d s False h = tt
   row_allowed f d s (OfType t) h = (tt, (tt, (tt, (tt, tt))))
@@ -77,10 +77,10 @@ module _ (limits : Limits) where
   row_allowed f d s (Not o) h = tt
   row_allowed f d s (Variable v) h = (tt, (tt, tt))
 
-  all_allowed : (d : ℕ) (rows : List Row) (c : Clearing) → All (Allowed limits) rows → All (Allowed limits) c.written → All (Allowed limits) (clearing d c rows).written
+  all_allowed : (d : ℕ) (rows : List Row) (c : Clearing) → AllByRecursion (Allowed limits) rows → AllByRecursion (Allowed limits) c.written → AllByRecursion (Allowed limits) (clearing d c rows).written
   all_allowed d [] c h w = w
   all_allowed d (row ∷ rows) c h w = all_allowed d rows (next d c row) h.1
       (All-append (Allowed limits) c.written (adds (look_up c.places) d (length c.written) row).rows w (row_allowed (look_up c.places) d (length c.written) row h.0))
 
-pub keeps_allowed : (limits : Limits) (book : Book) → All (Allowed limits) book.rows → All (Allowed limits) (clear book).rows
+pub keeps_allowed : (limits : Limits) (book : Book) → AllByRecursion (Allowed limits) book.rows → AllByRecursion (Allowed limits) (clear book).rows
 keeps_allowed limits book h = all_allowed limits (length book.definitions) book.rows begun h (tt, (tt, (tt, (tt, (tt, (tt, (tt, (tt, tt))))))))

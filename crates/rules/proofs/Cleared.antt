@@ -1,7 +1,7 @@
 -- A cleared book is sealed, has no `not`, and is not much longer.
 use Rattle.std.proofs.Common.{◌≡◌, ℕ, ◌+◌, ◌*◌, ◌<◌, ◌≤◌, map, length, get_or, sym, ap, ◌∙◌, subst, zero-add, arith, length-append}
 use lib.ListN.{get_or-append}
-use Rattle.std.specs.List.{AllByRecursion as All}
+use Rattle.std.specs.List.{AllByRecursion}
 use Rattle.std.proofs.lemmas.List.{length-map}
 use Rattle.std.proofs.ByRecursion.{All-weaker, All-get_or, All-append, All-map, All-from_get_or}
 use Rattle.rules.specs.declared.row.Row.TheVariants.{False}
@@ -18,7 +18,7 @@ use Rattle.rules.proofs.Allow.{keeps_allowed}
 use Rattle.rules.proofs.Rooted.{no_cycle, base_ends, Rooted, row_rooted, upto_at}
 
 module _ (book : Book) (sealed : WellFounded book) where
-  lower_rows : (i : ℕ) → i < length book.rows → All (λ o. o < 0 + i) (operands (row_at book i))
+  lower_rows : (i : ℕ) → i < length book.rows → AllByRecursion (λ o. o < 0 + i) (operands (row_at book i))
   lower_rows i h = rw zero-add (sealed.lower i h)
 
   in_order : Ordered (length book.definitions) (cleared book)
@@ -46,7 +46,7 @@ module _ (book : Book) (sealed : WellFounded book) where
       ap (λ rows. get_or rows k False) grown.1 ∙ get_or-append fixed grown.0 False k h
 
   rooted : (r s : ℕ) → (h : r < length book.rows) → Stands (length book.definitions) (cleared book) r (row_at book r) s →
-      All (λ o. Ends (clear book) (positive_row book o) × Ends (clear book) (complement_row book o)) (needs book (row_at book r)) →
+      AllByRecursion (λ o. Ends (clear book) (positive_row book o) × Ends (clear book) (complement_row book o)) (needs book (row_at book r)) →
       Rooted (clear book) first_rows s (adds (look_up (cleared book).places) (length book.definitions) s (row_at book r))
   rooted r s h it here = row_rooted (clear book) first_rows book (look_up (cleared book).places)
       (λ v hv. two_bodies (positive_row book) (complement_row book) book.definitions v hv) s (row_at book r) here (sealed.defined r h) it.reads
@@ -74,7 +74,7 @@ module _ (book : Book) (sealed : WellFounded book) where
       places_end (all_end book sealed.guarded (inside book sealed) o there) there)) in
       upto_at (clear book) first_rows s _ new.all j hj)
 
-  bodies_there : All (λ b. b < length (clear book).rows) (clear book).definitions
+  bodies_there : AllByRecursion (λ b. b < length (clear book).rows) (clear book).definitions
   bodies_there =
       let old = All-from_get_or (λ b. b < length book.rows) book.definitions 0 sealed.bodies in
       All-append _ (map (positive_row book) book.definitions) (map (complement_row book) book.definitions)

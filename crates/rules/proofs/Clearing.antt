@@ -1,7 +1,7 @@
 -- The complement theorem, over whole tables.
 use Rattle.std.proofs.Common.{◌≡◌, ℕ, ◌+◌, ◌<◌, not, List, ◌++◌, map, length, get_or, sym, ap, ◌∙◌, arith, length-append, get_or-append-add}
 use lib.ListN.{get_or-append}
-use Rattle.std.specs.List.{AllByRecursion as All}
+use Rattle.std.specs.List.{AllByRecursion}
 use Rattle.std.proofs.lemmas.List.{get_or-map, length-map}
 use Rattle.std.proofs.ByRecursion.{All-weaker}
 use Rattle.rules.specs.declared.row.Row.TheVariants.{False}
@@ -36,8 +36,8 @@ module _ {K : Type 0} (world : World K) (book : Book) (V : Verdicts)
       (ap (λ rows. get_or rows k False) grown.1 ∙ get_or-append fixed grown.0 False k h)
 
   fits : (r n : ℕ) (h : r < length book.rows) (hn : n < length world.doc) →
-      All (λ o. V (complement_row book o) n ≡ not (V (positive_row book o) n)) (needs book (row_at book r)) →
-      All (λ o. All (λ m. V (complement_row book o) m ≡ not (V (positive_row book o) m)) (parts (value_at world n))) (operands (row_at book r)) →
+      AllByRecursion (λ o. V (complement_row book o) n ≡ not (V (positive_row book o) n)) (needs book (row_at book r)) →
+      AllByRecursion (λ o. AllByRecursion (λ m. V (complement_row book o) m ≡ not (V (positive_row book o) m)) (parts (value_at world n))) (operands (row_at book r)) →
       (V (positive_row book r) n ≡ says world book (λ r m. V (positive_row book r) m) (row_at book r) n) × (V (complement_row book r) n ≡ not (says world book (λ r m. V (positive_row book r) m) (row_at book r) n))
   fits r n h hn here lower =
       let it = row_stands book sealed r h in
@@ -57,7 +57,7 @@ module _ {K : Type 0} (world : World K) (book : Book) (V : Verdicts)
       (λ r n h hn here lower.
       let both = fits r n h hn
       (All-weaker (λ o. Good o n) _ (λ o g. g.1) (needs book (row_at book r)) here)
-      (All-weaker (λ o. All (Good o) (parts (value_at world n))) _
+      (All-weaker (λ o. AllByRecursion (Good o) (parts (value_at world n))) _
       (λ o all. All-weaker (Good o) _ (λ m g. g.1) (parts (value_at world n)) all) (operands (row_at book r)) lower) in
       (both.0, both.1 ∙ ap not (sym both.0)))
 

@@ -1,7 +1,7 @@
 -- The complement theorem.
 use Rattle.std.proofs.Common.{◌≡◌, ℕ, zero, suc, ◌+◌, ◌<◌, Bool, true, false, not, ◌&&◌, ◌||◌, eqb, ltb, leb, List, [], ◌∷◌, length, get_or, is_some, Some, None, Option, Ordering, Less, Equal, Greater, sym, refl, ap, ◌∙◌, ap₂, add-zero, arith, lit<}
 use mathlib.Core.Bool.{beq}
-use Rattle.std.specs.List.{AllByRecursion as All}
+use Rattle.std.specs.List.{AllByRecursion}
 use Rattle.std.proofs.ByRecursion.{All-weaker}
 use Rattle.std.proofs.lemmas.Bool.{cond_both, not-false}
 use Rattle.std.proofs.lemmas.Bool.Decides.{nat_tests}
@@ -201,10 +201,10 @@ module _ {K : Type 0} (world : World K) (book : Book) (V : Verdicts) (n : ℕ)
         (λ x. sym (not_and (leb range.lower (size x)) (passes range.upper (λ u. leb (size x) u)))) follow
 
   -- an operator on numbers: `back` passes the turned comparison where `ok` does not pass
-  module _ (turns : (x y : K) → world.kind.compare y x ≡ turned (world.kind.compare x y)) (s : ℕ) (row back-row : Bounds → Row) (ok back : Ordering → Bool)
+  module _ (turns : (x y : K) → world.kind.compare y x ≡ turned (world.kind.compare x y)) (s : ℕ) (row back_row : Bounds → Row) (ok back : Ordering → Bool)
       (opposite : (o : Ordering) → back (turned o) ≡ not (ok o))
       (e : (bounds : Bounds) → says world book V (row bounds) n ≡ passes (as_number (value_at world n)) (in_bounds world.kind world.numbers ok bounds))
-      (eb : (bounds : Bounds) → says world book V (back-row bounds) n ≡ passes (as_number (value_at world n)) (in_bounds world.kind world.numbers back bounds)) where
+      (eb : (bounds : Bounds) → says world book V (back_row bounds) n ≡ passes (as_number (value_at world n)) (in_bounds world.kind world.numbers back bounds)) where
     view : Option K
     view = as_number (value_at world n)
 
@@ -212,18 +212,18 @@ module _ {K : Type 0} (world : World K) (book : Book) (V : Verdicts) (n : ℕ)
     swap x y = ap back (turns x y) ∙ opposite (world.kind.compare x y)
 
     under_side : (l : Option ℕ) (bounds : Bounds) → Side Number (as_number (value_at world n)) (is_number (value_at world n)) s (row bounds) (in_bounds world.kind world.numbers ok bounds) (e bounds)
-        (side back-row (under l)) (λ x. not (passes l (λ i. ok (world.kind.compare (number_at world.kind world.numbers i) x))))
+        (side back_row (under l)) (λ x. not (passes l (λ i. ok (world.kind.compare (number_at world.kind world.numbers i) x))))
     under_side None bounds = λ x. refl
     under_side (Some i) bounds = eb (record { lower = None; upper = Some i }) ∙ passes_same (as_number (value_at world n)) _ _ (always (as_number (value_at world n)) _ (λ x. swap (number_at world.kind world.numbers i) x))
 
     over_side : (u : Option ℕ) (bounds : Bounds) → Side Number (as_number (value_at world n)) (is_number (value_at world n)) s (row bounds) (in_bounds world.kind world.numbers ok bounds) (e bounds)
-        (side back-row (over u)) (λ x. not (passes u (λ i. ok (world.kind.compare x (number_at world.kind world.numbers i)))))
+        (side back_row (over u)) (λ x. not (passes u (λ i. ok (world.kind.compare x (number_at world.kind world.numbers i)))))
     over_side None bounds = λ x. refl
     over_side (Some i) bounds = eb (record { lower = Some i; upper = None })
         ∙ passes_same (as_number (value_at world n)) _ _ (always (as_number (value_at world n)) _ (λ x. and_true (back (world.kind.compare (number_at world.kind world.numbers i) x)) ∙ swap x (number_at world.kind world.numbers i)))
 
-    bounds_fits : (bounds : Bounds) → Follow s (around_bounds s row back-row bounds).rows →
-        Fits (around_bounds s row back-row bounds) (passes (as_number (value_at world n)) (in_bounds world.kind world.numbers ok bounds))
+    bounds_fits : (bounds : Bounds) → Follow s (around_bounds s row back_row bounds).rows →
+        Fits (around_bounds s row back_row bounds) (passes (as_number (value_at world n)) (in_bounds world.kind world.numbers ok bounds))
     bounds_fits bounds follow =
         outside_fits Number (as_number (value_at world n)) (is_number (value_at world n)) s (row bounds) (in_bounds world.kind world.numbers ok bounds) (e bounds) _ _ _ _
         (under_side bounds.lower bounds) (over_side bounds.upper bounds)
@@ -249,8 +249,8 @@ module _ {K : Type 0} (world : World K) (book : Book) (V : Verdicts) (n : ℕ)
     abbrev pub Turned : ℕ → ℕ → Type 0
     Turned o m = V (places o).negative m ≡ not (V (places o).positive m)
 
-    pub row_fits : (s : ℕ) (row : Row) → All (λ o. Turned o n) (needs original row) → All (λ o. All (Turned o) (parts (value_at world n))) (operands row) →
-        All (λ v. v < length original.definitions) (variables row) →
+    pub row_fits : (s : ℕ) (row : Row) → AllByRecursion (λ o. Turned o n) (needs original row) → AllByRecursion (λ o. AllByRecursion (Turned o) (parts (value_at world n))) (operands row) →
+        AllByRecursion (λ v. v < length original.definitions) (variables row) →
         Follow s (adds places (length original.definitions) s row).rows →
         Fits (adds places (length original.definitions) s row) (says world original (λ r m. V (places r).positive m) row n)
     row_fits s True h b v follow = (base 6 (lit< tt), base 7 (lit< tt))
@@ -279,14 +279,14 @@ module _ {K : Type 0} (world : World K) (book : Book) (V : Verdicts) (n : ℕ)
     row_fits s (EveryMember p o) h b v follow =
         turn_fits Object (as_object (value_at world n)) (is_object (value_at world n)) s (EveryMember p (places o).positive) _ refl
         (SomeMember p (places o).negative) _ refl
-        (weaker (as_object (value_at world n)) (λ ms. All (λ m. Turned o m.node) ms) _
+        (weaker (as_object (value_at world n)) (λ ms. AllByRecursion (λ m. Turned o m.node) ms) _
         (λ ms k. not_all _ _ ms (All-weaker (λ m. Turned o m.node) _ (λ m e. some_member (world.matches p m.name) (V (places o).positive m.node) (V (places o).negative m.node) e) ms k))
         (in_object (value_at world n) (Turned o) b.0))
         follow
     row_fits s (SomeMember p o) h b v follow =
         turn_fits Object (as_object (value_at world n)) (is_object (value_at world n)) s (SomeMember p (places o).positive) _ refl
         (EveryMember p (places o).negative) _ refl
-        (weaker (as_object (value_at world n)) (λ ms. All (λ m. Turned o m.node) ms) _
+        (weaker (as_object (value_at world n)) (λ ms. AllByRecursion (λ m. Turned o m.node) ms) _
         (λ ms k. not_any _ _ ms (All-weaker (λ m. Turned o m.node) _ (λ m e. every_member (world.matches p m.name) (V (places o).positive m.node) (V (places o).negative m.node) e) ms k))
         (in_object (value_at world n) (Turned o) b.0))
         follow
@@ -294,11 +294,11 @@ module _ {K : Type 0} (world : World K) (book : Book) (V : Verdicts) (n : ℕ)
     row_fits s (EveryElement o) h b v follow =
         turn_fits Listed (as_list (value_at world n)) (is_list (value_at world n)) s (EveryElement (places o).positive) (all (V (places o).positive)) refl
         (SomeElement (places o).negative) (any (V (places o).negative)) refl
-        (weaker (as_list (value_at world n)) (λ es. All (Turned o) es) _ (not_all _ _) (in_list (value_at world n) (Turned o) b.0)) follow
+        (weaker (as_list (value_at world n)) (λ es. AllByRecursion (Turned o) es) _ (not_all _ _) (in_list (value_at world n) (Turned o) b.0)) follow
     row_fits s (SomeElement o) h b v follow =
         turn_fits Listed (as_list (value_at world n)) (is_list (value_at world n)) s (SomeElement (places o).positive) (any (V (places o).positive)) refl
         (EveryElement (places o).negative) (all (V (places o).negative)) refl
-        (weaker (as_list (value_at world n)) (λ es. All (Turned o) es) _ (not_any _ _) (in_list (value_at world n) (Turned o) b.0)) follow
+        (weaker (as_list (value_at world n)) (λ es. AllByRecursion (Turned o) es) _ (not_any _ _) (in_list (value_at world n) (Turned o) b.0)) follow
     row_fits s (Count o range) h b v follow =
         range_fits Listed (as_list (value_at world n)) (is_list (value_at world n)) s (Count (places o).positive) (count (V (places o).positive)) (λ _. refl) range follow
     row_fits s (And a c) h b v follow = (

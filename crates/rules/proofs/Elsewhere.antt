@@ -1,6 +1,6 @@
 -- A change at one node is seen only there and above.
 use Rattle.std.proofs.Common.{◌≡◌, ℕ, zero, suc, ◌-◌, ◌<◌, ◌≤◌, ◌≢◌, ◌⊎◌, List, [], ◌∷◌, length, set, sym, refl, ap, ◌∙◌, subst, inl, inr, ⊎_elim, arith, length-set, get_or-set_other}
-use Rattle.std.specs.List.{AllByRecursion as All}
+use Rattle.std.specs.List.{AllByRecursion}
 use Rattle.std.proofs.ByRecursion.{All-weaker}
 use Rattle.std.proofs.lemmas.Bool.{cases_eq}
 use Rattle.rules.specs.Value.{◌∈◌, first, later, Shape, null, PartsAfter, parts, shape_at, HoldsNode, itself, within}
@@ -21,7 +21,7 @@ stays_elsewhere K world limits book V W x leaf after sealed v w =
     v r n h hn
     ∙ says_same world book V W n (row_at book r)
     (All-weaker (λ o. (HoldsNode world.doc n x → ⊥) → V o n ≡ W o n) _ (λ o k. k apart) (needs book (row_at book r)) here)
-    (All-weaker (λ o. All (λ m. (HoldsNode world.doc m x → ⊥) → V o m ≡ W o m) (parts (value_at world n))) (λ o. All (λ m. V o m ≡ W o m) (parts (value_at world n)))
+    (All-weaker (λ o. AllByRecursion (λ m. (HoldsNode world.doc m x → ⊥) → V o m ≡ W o m) (parts (value_at world n))) (λ o. AllByRecursion (λ m. V o m ≡ W o m) (parts (value_at world n)))
     (λ o all. all_each (λ m. V o m ≡ W o m) (parts (value_at world n))
     (λ m i. all_in (λ m. (HoldsNode world.doc m x → ⊥) → V o m ≡ W o m) (parts (value_at world n)) all i (λ up. apart (within i up))))
     (operands (row_at book r)) below)
@@ -30,7 +30,7 @@ stays_elsewhere K world limits book V W x leaf after sealed v w =
 
 -- whether a node holds x can be told
 module _ {K : Type 0} (doc : List (Shape K)) (x : ℕ) where
-  some_part : (ms : List ℕ) → All (λ m. HoldsNode doc m x ⊎ (HoldsNode doc m x → ⊥)) ms →
+  some_part : (ms : List ℕ) → AllByRecursion (λ m. HoldsNode doc m x ⊎ (HoldsNode doc m x → ⊥)) ms →
       ((m : ℕ) × (m ∈ ms) × HoldsNode doc m x) ⊎ ((m : ℕ) → m ∈ ms → HoldsNode doc m x → ⊥)
   some_part [] h = inr (λ m i. elim i [ ])
   some_part (m ∷ ms) h = ⊎_elim
@@ -69,7 +69,7 @@ renews K world limits book V W x leaf after sealed law elsewhere renewed r n h h
     ∙ law r n h hn
     ∙ says_same world book V W n (row_at book r)
     (All-weaker (λ o. o < length book.rows) (λ o. V o n ≡ W o n) (λ o l. sym (elsewhere o n l hn apart)) (needs book (row_at book r)) (inside book (founded sealed) r h))
-    (All-weaker (λ o. o < r) (λ o. All (λ m. V o m ≡ W o m) (parts (value_at world n)))
+    (All-weaker (λ o. o < r) (λ o. AllByRecursion (λ m. V o m ≡ W o m) (parts (value_at world n)))
     (λ o l. all_each (λ m. V o m ≡ W o m) (parts (value_at world n))
     (λ m i. sym (elsewhere o m (omega arith) (all_in (λ m. (n < m) × (m < length world.doc)) (parts (value_at world n)) (after n hn) i).1 (λ up. apart (within i up)))))
     (operands (row_at book r)) (sealed.lower r h))

@@ -1,17 +1,17 @@
 -- In a guarded book every chain of direct needs ends.
 use Rattle.std.proofs.Common.{◌≡◌, ℕ, zero, suc, ◌+◌, ◌<◌, ◌≤◌, Bool, true, false, cond, ◌||◌, eqb, List, [], ◌∷◌, length, sym, refl, ap, ◌∙◌, subst, ⊎_elim, arith}
-use Rattle.std.specs.List.{AllByRecursion as All}
+use Rattle.std.specs.List.{AllByRecursion}
 use Rattle.std.proofs.ByRecursion.{All-weaker}
 use Rattle.std.proofs.lemmas.Bool.{eqb-true, eq-eqb, ne_eqb, cases_eq, cases_Bool, or_cases, or_from, both_ways}
 use Rattle.rules.specs.Value.{◌∈◌, first, later}
 use Rattle.rules.specs.Book.{Book, row_at, needs, Needs, direct, through, Guarded}
 
-pub all_in : {A : Type 0} {x : A} (P : A → Type 0) (xs : List A) → All P xs → x ∈ xs → P x
+pub all_in : {A : Type 0} {x : A} (P : A → Type 0) (xs : List A) → AllByRecursion P xs → x ∈ xs → P x
 all_in P [] h m = elim m [ ]
 all_in P (y ∷ ys) h first = h.0
 all_in P (y ∷ ys) h (later m) = all_in P ys h.1 m
 
-pub all_each : {A : Type 0} (P : A → Type 0) (xs : List A) → ((x : A) → x ∈ xs → P x) → All P xs
+pub all_each : {A : Type 0} (P : A → Type 0) (xs : List A) → ((x : A) → x ∈ xs → P x) → AllByRecursion P xs
 all_each P [] h = tt
 all_each P (x ∷ xs) h = (h x first, all_each P xs (λ y m. h y (later m)))
 
@@ -22,7 +22,7 @@ pub data Ends (book : Book) : ℕ → Type 0 where
 -- every chain of direct needs from this row has fewer than k steps
 abbrev pub Within : Book → ℕ → ℕ → Type 0
 Within book zero r = ⊥
-Within book (suc k) r = All (Within book k) (needs book (row_at book r))
+Within book (suc k) r = AllByRecursion (Within book k) (needs book (row_at book r))
 
 pub within_more : (book : Book) (k r : ℕ) → Within book k r → Within book (suc k) r
 within_more book zero r h = absurd h
@@ -75,7 +75,7 @@ closed_holds book S closed {r} {k} start (direct h) = start k h
 closed_holds book S closed start (through {m = m} h n) = closed_holds book S closed (λ o i. closed m o (start m h) i) n
 
 module _ (book : Book) (guarded : Guarded book)
-    (inside : (r : ℕ) → r < length book.rows → All (λ o. o < length book.rows) (needs book (row_at book r))) where
+    (inside : (r : ℕ) → r < length book.rows → AllByRecursion (λ o. o < length book.rows) (needs book (row_at book r))) where
   -- `seen` holds rows that need r, and r is not among them
   from : (fuel : ℕ) (seen : ℕ → Bool) (r : ℕ) → r < length book.rows → free seen (length book.rows) ≤ fuel →
       seen r ≡ false → ((k : ℕ) → seen k ≡ true → Needs book k r) → Within book fuel r

@@ -1,6 +1,6 @@
 -- A cleared book is guarded if the book is: every chain of direct needs in it ends.
 use Rattle.std.proofs.Common.{◌≡◌, ℕ, zero, suc, ◌+◌, ◌<◌, List, [], length, get_or, Some, None, Option, sym, refl, subst, ⊎_elim, add-zero, arith, lit<}
-use Rattle.std.specs.List.{AllByRecursion as All}
+use Rattle.std.specs.List.{AllByRecursion}
 use Rattle.std.proofs.lemmas.Bool.{cases_lt}
 use Rattle.rules.specs.declared.row.ValueType.{ValueType}
 use Rattle.rules.specs.declared.row.ValueType.TheVariants.{Null, Boolean, Number, Text, List as Listed, Object}
@@ -26,7 +26,7 @@ no_cycle {book} {r} h n = no_way_back h r refl n
 
 -- In a book whose first rows are the fixed ones.
 module _ (book : Book) (base : (k : ℕ) → k < 8 → row_at book k ≡ get_or fixed k False) where
-  made : (k : ℕ) (row : Row) → row_at book k ≡ row → All (Ends book) (needs book row) → Ends book k
+  made : (k : ℕ) (row : Row) → row_at book k ≡ row → AllByRecursion (Ends book) (needs book row) → Ends book k
   made k row e h = ends (λ o m. all_in (Ends book) (needs book row) h (subst (λ x. o ∈ needs book x) e m))
 
   pub base_ends : (k : ℕ) → k < 8 → Ends book k
@@ -108,8 +108,8 @@ module _ (book : Book) (base : (k : ℕ) → k < 8 → row_at book k ≡ get_or 
   module _ (original : Book) (places : ℕ → Place)
       (variable : (v : ℕ) → v < length original.definitions →
       (body_at book v ≡ (places (body_at original v)).positive) × (body_at book (length original.definitions + v) ≡ (places (body_at original v)).negative)) where
-    pub row_rooted : (s : ℕ) (row : Row) → All (λ o. Ends book (places o).positive × Ends book (places o).negative) (needs original row) →
-        All (λ v. v < length original.definitions) (variables row) →
+    pub row_rooted : (s : ℕ) (row : Row) → AllByRecursion (λ o. Ends book (places o).positive × Ends book (places o).negative) (needs original row) →
+        AllByRecursion (λ v. v < length original.definitions) (variables row) →
         Reads s (adds places (length original.definitions) s row).rows → Rooted s (adds places (length original.definitions) s row)
     row_rooted s True h v reads = record { all = tt; positive = base_ends 6 (lit< tt); negative = base_ends 7 (lit< tt) }
     row_rooted s False h v reads = record { all = tt; positive = base_ends 7 (lit< tt); negative = base_ends 6 (lit< tt) }

@@ -1,6 +1,6 @@
 -- A lawful table exists: round after round by the rows' rules, and after finitely many rounds nothing changes.
 use Rattle.std.proofs.Common.{◌≡◌, ℕ, zero, suc, ◌+◌, ◌<◌, ◌≤◌, false, List, [], ◌∷◌, length, subst, ⊎_elim, arith}
-use Rattle.std.specs.List.{AllByRecursion as All}
+use Rattle.std.specs.List.{AllByRecursion}
 use Rattle.std.proofs.ByRecursion.{All-weaker}
 use Rattle.std.proofs.lemmas.Bool.{cases_lt}
 use Rattle.rules.specs.Value.{PartsAfter, parts}
@@ -13,7 +13,7 @@ use Rattle.rules.proofs.Agree.{says_same}
 
 -- what holds of each at some number, and at every larger one, holds of all at one number
 module _ {A : Type 0} (P : A → ℕ → Type 0) (more : (x : A) (k l : ℕ) → k ≤ l → P x k → P x l) where
-  common : (xs : List A) → All (λ x. (k : ℕ) × P x k) xs → (k : ℕ) × All (λ x. P x k) xs
+  common : (xs : List A) → AllByRecursion (λ x. (k : ℕ) × P x k) xs → (k : ℕ) × AllByRecursion (λ x. P x k) xs
   common [] h = (0, tt)
   common (x ∷ xs) h =
       let rest = common xs h.1 in
@@ -50,15 +50,15 @@ module _ {K : Type 0} (world : World K) (book : Book) where
   later : (r n k l : ℕ) → k ≤ l → Settled r n k → Settled r n l
   later r n k l le s i j hi hj = s i j (omega arith) (omega arith)
 
-  settles : (r n k : ℕ) → All (λ o. Settled o n k) (needs book (row_at book r)) →
-      All (λ o. All (λ m. Settled o m k) (parts (value_at world n))) (operands (row_at book r)) → Settled r n (suc k)
+  settles : (r n k : ℕ) → AllByRecursion (λ o. Settled o n k) (needs book (row_at book r)) →
+      AllByRecursion (λ o. AllByRecursion (λ m. Settled o m k) (parts (value_at world n))) (operands (row_at book r)) → Settled r n (suc k)
   unfolding rounds
   settles r n k here below zero j hi hj = absurd (omega arith)
   settles r n k here below (suc i) zero hi hj = absurd (omega arith)
   settles r n k here below (suc i) (suc j) hi hj =
       says_same world book (rounds i) (rounds j) n (row_at book r)
       (All-weaker (λ o. Settled o n k) (λ o. rounds i o n ≡ rounds j o n) (λ o s. s i j (omega arith) (omega arith)) (needs book (row_at book r)) here)
-      (All-weaker (λ o. All (λ m. Settled o m k) (parts (value_at world n))) (λ o. All (λ m. rounds i o m ≡ rounds j o m) (parts (value_at world n)))
+      (All-weaker (λ o. AllByRecursion (λ m. Settled o m k) (parts (value_at world n))) (λ o. AllByRecursion (λ m. rounds i o m ≡ rounds j o m) (parts (value_at world n)))
       (λ o all. All-weaker (λ m. Settled o m k) (λ m. rounds i o m ≡ rounds j o m) (λ m s. s i j (omega arith) (omega arith)) (parts (value_at world n)) all)
       (operands (row_at book r)) below)
 
@@ -67,15 +67,15 @@ module _ {K : Type 0} (world : World K) (book : Book) where
     some_round = descent book sealed world.doc after (λ r n. (k : ℕ) × Settled r n k)
         (λ r n h hn here below.
         let a = common (λ o k. Settled o n k) (λ o. later o n) (needs book (row_at book r)) here in
-        let b = common (λ o k. All (λ m. Settled o m k) (parts (value_at world n)))
+        let b = common (λ o k. AllByRecursion (λ m. Settled o m k) (parts (value_at world n)))
         (λ o k l le all. All-weaker (λ m. Settled o m k) (λ m. Settled o m l) (λ m s. later o m k l le s) (parts (value_at world n)) all)
         (operands (row_at book r))
-        (All-weaker (λ o. All (λ m. (k : ℕ) × Settled o m k) (parts (value_at world n))) (λ o. (k : ℕ) × All (λ m. Settled o m k) (parts (value_at world n)))
+        (All-weaker (λ o. AllByRecursion (λ m. (k : ℕ) × Settled o m k) (parts (value_at world n))) (λ o. (k : ℕ) × AllByRecursion (λ m. Settled o m k) (parts (value_at world n)))
         (λ o all. common (λ m k. Settled o m k) (λ m. later o m) (parts (value_at world n)) all) (operands (row_at book r)) below) in (
           suc (a.0 + b.0),
           settles r n (a.0 + b.0)
               (All-weaker (λ o. Settled o n a.0) _ (λ o s. later o n a.0 (a.0 + b.0) (omega arith) s) (needs book (row_at book r)) a.1)
-              (All-weaker (λ o. All (λ m. Settled o m b.0) (parts (value_at world n))) _
+              (All-weaker (λ o. AllByRecursion (λ m. Settled o m b.0) (parts (value_at world n))) _
               (λ o all. All-weaker (λ m. Settled o m b.0) _ (λ m s. later o m b.0 (a.0 + b.0) (omega arith) s) (parts (value_at world n)) all)
               (operands (row_at book r)) b.1),
         ))

@@ -2,7 +2,7 @@
 use Rattle.std.proofs.Common.{◌≡◌, ℕ, suc, ◌+◌, ◌-◌, ◌<◌, ◌≤◌, List, [], ◌∷◌, ◌++◌, length, get_or, take, drop, sym, refl, ap, ◌∙◌, subst, ⊎_elim, append_assoc, append-nil, arith, length-append, take-append-drop, get_or-append-add}
 use lib.ListN.{get_or-append}
 use lib.Seq.{get_or-append_seam}
-use Rattle.std.specs.List.{AllByRecursion as All}
+use Rattle.std.specs.List.{AllByRecursion}
 use Rattle.std.proofs.ByRecursion.{All-weaker}
 use Rattle.std.proofs.lemmas.List.{take_more, drop_more, length-take-le}
 use Rattle.std.proofs.lemmas.Bool.{cases_lt}
@@ -15,7 +15,7 @@ use Rattle.rules.specs.declared.place.Place.{Place}
 use Rattle.rules.specs.Clear.{place, Added, added, turn, around_range, adds, Clearing, look_up, next, clearing, begun, cleared}
 
 -- what a row adds looks only at the places of the rows that it names
-pub adds_same : (f g : ℕ → Place) (d s : ℕ) (row : Row) → All (λ o. f o ≡ g o) (operands row) → adds f d s row ≡ adds g d s row
+pub adds_same : (f g : ℕ → Place) (d s : ℕ) (row : Row) → AllByRecursion (λ o. f o ≡ g o) (operands row) → adds f d s row ≡ adds g d s row
 adds_same f g d s True h = refl
 adds_same f g d s False h = refl
 adds_same f g d s (OfType t) h = refl
@@ -83,7 +83,7 @@ stands_by d row end new before more known later written places same = record {
 }
 
 -- the row that is read next stands where the writing is
-module _ (d : ℕ) (row : Row) (rows : List Row) (c : Clearing) (lower : All (λ o. o < length c.places) (operands row)) where
+module _ (d : ℕ) (row : Row) (rows : List Row) (c : Clearing) (lower : AllByRecursion (λ o. o < length c.places) (operands row)) where
   places_then : (clearing d c (row ∷ rows)).places ≡ c.places ++ ((adds (look_up c.places) d (length c.written) row).stands ∷ (places_grow d rows (next d c row)).0)
   places_then =
       let p = places_grow d rows (next d c row) in
@@ -113,7 +113,7 @@ places_count d (row ∷ rows) c =
 -- what holds of the rows written before, and of each row's rows, holds of all that is written
 pub written_all : (E : ℕ → Type 0) (d : ℕ) (rows : List Row) (c : Clearing) →
     ((k : ℕ) → k < length c.written → E k) →
-    ((i : ℕ) → i < length rows → All (λ o. o < length c.places + i) (operands (get_or rows i False))) →
+    ((i : ℕ) → i < length rows → AllByRecursion (λ o. o < length c.places + i) (operands (get_or rows i False))) →
     ((r i s : ℕ) → i < length rows → r ≡ length c.places + i → Stands d (clearing d c rows) r (get_or rows i False) s →
     (j : ℕ) → j < length (adds (look_up (clearing d c rows).places) d s (get_or rows i False)).rows → E (s + j)) →
     (k : ℕ) → k < length (clearing d c rows).written → E k
@@ -150,7 +150,7 @@ module _ (book : Book) (sealed : WellFounded book) where
         ap (clearing (length book.definitions) begun) (sym (take-append-drop r book.rows) ∙ ap (λ xs. take r book.rows ++ xs) (drop_more book.rows r False h))
         ∙ split_rows (length book.definitions) begun (take r book.rows) (row_at book r ∷ drop (r + 1) book.rows)
 
-    pub operands_known : All (λ o. o < length (before r).places) (operands (row_at book r))
+    pub operands_known : AllByRecursion (λ o. o < length (before r).places) (operands (row_at book r))
     operands_known = All-weaker (λ o. o < r) (λ o. o < length (before r).places) (λ o l. omega (arith, known)) (operands (row_at book r)) (sealed.lower r h)
 
     pub row_stands : Stands (length book.definitions) (cleared book) r (row_at book r) (length (before r).written)

@@ -1,6 +1,6 @@
 -- What a clearing writes: no `not`, operands lower than their row, at most five rows for a row.
 use Rattle.std.proofs.Common.{◌≡◌, ℕ, zero, suc, ◌+◌, ◌*◌, ◌<◌, ◌≤◌, ltb, List, [], ◌∷◌, ◌++◌, length, get_or, Some, None, Option, subst, add-zero, zero-add, arith, lit<, length-append}
-use Rattle.std.specs.List.{AllByRecursion as All}
+use Rattle.std.specs.List.{AllByRecursion}
 use Rattle.std.proofs.lemmas.Bool.{cond_both}
 use Rattle.std.proofs.ByRecursion.{All-weaker, All-get_or, All-append}
 use Rattle.rules.specs.declared.row.ValueType.{ValueType}
@@ -30,8 +30,8 @@ positive_not row h o e = subst Positive e h
 
 -- row s of a cleared book, d the original's count of definitions
 pub record Tidy (d s : ℕ) (row : Row) : Type 0 where
-  pub lower : All (λ o. o < s) (operands row)
-  pub defined : All (λ v. v < d + d) (variables row)
+  pub lower : AllByRecursion (λ o. o < s) (operands row)
+  pub defined : AllByRecursion (λ v. v < d + d) (variables row)
   pub plain : Positive row
 
 -- each of the rows from s on
@@ -93,7 +93,7 @@ module _ (f : ℕ → Place) (d s : ℕ) (eight : 8 ≤ s) where
       Neat d s (around_bounds s row back bounds)
   neat_bounds row back h k bounds = neat_outside Number (row bounds) _ _ (h bounds) (sound_side back k (under bounds.lower)) (sound_side back k (over bounds.upper))
 
-  neat : (row : Row) → All (λ o. ((f o).positive < s) × ((f o).negative < s)) (operands row) → All (λ v. v < d) (variables row) → Neat d s (adds f d s row)
+  neat : (row : Row) → AllByRecursion (λ o. ((f o).positive < s) × ((f o).negative < s)) (operands row) → AllByRecursion (λ v. v < d) (variables row) → Neat d s (adds f d s row)
   neat True h v = omega arith
   neat False h v = omega arith
   neat (OfType t) h v = omega (arith, index_lt t, other_lt t 0 (lit< tt), other_lt t 1 (lit< tt), other_lt t 2 (lit< tt), other_lt t 3 (lit< tt), other_lt t 4 (lit< tt))
@@ -134,9 +134,9 @@ tidy_at d s (row ∷ rows) h (suc k) l =
 pub record Ordered (d : ℕ) (c : Clearing) : Type 0 where
   pub eight : 8 ≤ length c.written
   pub tidies : Tidies d 0 c.written
-  pub placed : All (λ p. (p.positive < length c.written) × (p.negative < length c.written)) c.places
+  pub placed : AllByRecursion (λ p. (p.positive < length c.written) × (p.negative < length c.written)) c.places
 
-ordered_next : (d : ℕ) (c : Clearing) (row : Row) → All (λ o. o < length c.places) (operands row) → All (λ v. v < d) (variables row) → Ordered d c →
+ordered_next : (d : ℕ) (c : Clearing) (row : Row) → AllByRecursion (λ o. o < length c.places) (operands row) → AllByRecursion (λ v. v < d) (variables row) → Ordered d c →
     Ordered d (next d c row) × (length (next d c row).written ≤ length c.written + 5)
 ordered_next d c row lower defined o =
     let new = adds (look_up c.places) d (length c.written) row in
@@ -156,8 +156,8 @@ ordered_next d c row lower defined o =
     )
 
 pub ordered : (d : ℕ) (rows : List Row) (c : Clearing) →
-    ((i : ℕ) → i < length rows → All (λ o. o < length c.places + i) (operands (get_or rows i False))) →
-    ((i : ℕ) → i < length rows → All (λ v. v < d) (variables (get_or rows i False))) → Ordered d c →
+    ((i : ℕ) → i < length rows → AllByRecursion (λ o. o < length c.places + i) (operands (get_or rows i False))) →
+    ((i : ℕ) → i < length rows → AllByRecursion (λ v. v < d) (variables (get_or rows i False))) → Ordered d c →
     Ordered d (clearing d c rows) × (length (clearing d c rows).written ≤ length c.written + 5 * length rows) × (length (clearing d c rows).places ≡ length c.places + length rows)
 ordered d [] c lower defined o = (o, omega arith, omega arith)
 ordered d (row ∷ rows) c lower defined o =

@@ -5,7 +5,7 @@ use Rattle.std.proofs.lemmas.List.{take_all}
 use Rattle.rules.specs.declared.row.Row.TheVariants.{False}
 use Rattle.rules.specs.Book.{Book, row_at}
 use Rattle.rules.specs.Clear.{fixed, adds, look_up, clearing, begun, place_of, positive_row, complement_row}
-use Rattle.rules.specs.Theorems.{Laid_out, LaysOut}
+use Rattle.rules.specs.Theorems.{LaidOut, LaysOut}
 use Rattle.rules.proofs.Founded.{WellFounded, founded}
 use Rattle.rules.proofs.Standing.{row_more, written_grows, same_then, before, whole, operands_known, row_stands}
 use Rattle.rules.proofs.Clearing.{two_bodies}
@@ -26,7 +26,7 @@ module _ (book : Book) (sealed : WellFounded book) where
         ∙ length-append c.written (adds (look_up c.places) d (length c.written) (row_at book r)).rows
         ∙ ap (λ a. length c.written + length a.rows) (sym same)
 
-  laid_out : Laid_out book start
+  laid_out : LaidOut book start
   unfolding start
   laid_out = record {
     begins = λ k h.

@@ -1,7 +1,7 @@
 -- Rule books: which rows a row names and which it needs, and what a sealed book is.
 use Rattle.std.specs.Prelude.{◌≡◌, ℕ, ◌%◌, ◌<◌, ◌≤◌, Bool, true, List, [], ◌∷◌, length, Some, None, Option, ◌≢◌, slice_index, slice_index_or}
-use Rattle.std.specs.List.{AllByRecursion as All}
-use Rattle.numbers.specs.Kinds.{Kind, above_zero as is-above-zero}
+use Rattle.std.specs.List.{AllByRecursion}
+use Rattle.numbers.specs.Kinds.{Kind, above_zero as is_above_zero}
 use Rattle.rules.specs.Value.{◌∈◌}
 use Rattle.rules.specs.declared.row.Range.{Range}
 use Rattle.rules.specs.declared.row.Bounds.{Bounds}
@@ -108,7 +108,7 @@ abbrev pub limits_of : {K : Type 0} → Kind K → ℕ → List K → Limits
 limits_of kind patterns numbers = record {
   patterns = patterns;
   numbers = length numbers;
-  above_zero = λ i. is-above-zero kind (number_at kind numbers i);
+  above_zero = λ i. is_above_zero kind (number_at kind numbers i);
 }
 
 abbrev pub IfThere : {A : Type 0} → Option A → (A → Type 0) → Type 0
@@ -155,8 +155,8 @@ pub record Sealed (limits : Limits) (book : Book) : Type 0 where
   pub some_definition : 1 ≤ length book.definitions
   pub few_definitions : length book.definitions ≤ 128
   pub allowed : (r : ℕ) → r < length book.rows → Allowed limits (row_at book r)
-  pub lower : (r : ℕ) → r < length book.rows → All (λ o. o < r) (operands (row_at book r))
-  pub defined : (r : ℕ) → r < length book.rows → All (λ v. v < length book.definitions) (variables (row_at book r))
+  pub lower : (r : ℕ) → r < length book.rows → AllByRecursion (λ o. o < r) (operands (row_at book r))
+  pub defined : (r : ℕ) → r < length book.rows → AllByRecursion (λ v. v < length book.definitions) (variables (row_at book r))
   pub bodies : (v : ℕ) → v < length book.definitions → body_at book v < length book.rows
   pub guarded : Guarded book
 

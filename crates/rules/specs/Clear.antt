@@ -32,7 +32,7 @@ other_type t k = cond (nat_lt k (type_index t)) k (k + 1)
 
 -- the row and, for values of its type, the turned row: from s on
 abbrev pub turn : ValueType → ℕ → Row → Row → Added
-turn t s row turned-row = added (row ∷ turned-row ∷ And (type_index t) (s + 1) ∷ []) s (s + 2)
+turn t s row turned_row = added (row ∷ turned_row ∷ And (type_index t) (s + 1) ∷ []) s (s + 2)
 
 -- the row and, for values of its type, the sides that it leaves out: from s on
 abbrev pub outside : ValueType → ℕ → Row → Option Row → Option Row → Added
@@ -69,7 +69,7 @@ abbrev pub around_range : ValueType → ℕ → (Range → Row) → Range → Ad
 around_range t s row range = outside t s (row range) (side row (below range.lower)) (side row (above range.upper))
 
 abbrev pub around_bounds : ℕ → (Bounds → Row) → (Bounds → Row) → Bounds → Added
-around_bounds s row turned-row bounds = outside Number s (row bounds) (side turned-row (under bounds.lower)) (side turned-row (over bounds.upper))
+around_bounds s row turned_row bounds = outside Number s (row bounds) (side turned_row (under bounds.lower)) (side turned_row (over bounds.upper))
 
 -- What a row adds: `places` tells where the rows before it stand, s is the next free row, d the count of definitions.
 abbrev pub adds : (ℕ → Place) → ℕ → ℕ → Row → Added

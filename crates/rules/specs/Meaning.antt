@@ -1,5 +1,5 @@
 -- What a book says of a document: the definition that all the rest rests on.
-use Rattle.std.specs.Prelude.{◌≡◌, ℕ, suc, ◌<◌, Bool, true, false, cond, not, ◌&&◌, ◌||◌, leb, List, [], ◌∷◌, length, Some, None, Option, ◌==◌, nat_le}
+use Rattle.std.specs.Prelude.{◌≡◌, ℕ, suc, ◌<◌, Bool, true, false, cond, not, ◌&&◌, ◌||◌, List, [], ◌∷◌, length, Some, None, Option, ◌==◌, nat_le}
 use Rattle.std.specs.declared.cmp.Ordering.TheVariants.{Less, Equal, Greater}
 use Rattle.std.specs.declared.cmp.Ordering.{Ordering}
 use Rattle.std.specs.Bool.{beq}
@@ -48,7 +48,7 @@ module _ {A : Type 0} where
 
 -- a count between the ends, both included
 abbrev pub in_range : Range → ℕ → Bool
-in_range range n = nat_le range.lower n && passes range.upper (λ u. leb n u)
+in_range range n = nat_le range.lower n && passes range.upper (λ u. nat_le n u)
 
 -- the lower bound compares so with x, and x with the upper
 abbrev pub in_bounds : {K : Type 0} → Kind K → List K → (Ordering → Bool) → Bounds → K → Bool

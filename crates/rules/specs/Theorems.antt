@@ -65,7 +65,7 @@ Clears = (limits : Limits) (book : Book) → Sealed limits book → ClearsWell l
 
 -- The cleared book, row by row: eight fixed rows, then for each row in turn what it adds, by the places where its operands stand in the
 -- whole; a row stands where its own rows say. The definitions go to where their bodies stand.
-pub record Laid_out (book : Book) (start : ℕ → ℕ) : Type 0 where
+pub record LaidOut (book : Book) (start : ℕ → ℕ) : Type 0 where
   pub begins : (k : ℕ) → k < 8 → row_at (clear book) k ≡ slice_index_or fixed k False
   pub first : start 0 ≡ 8
   pub each : (r : ℕ) → r < length book.rows →
@@ -77,4 +77,4 @@ pub record Laid_out (book : Book) (start : ℕ → ℕ) : Type 0 where
       (body_at (clear book) k ≡ positive_row book (body_at book k)) × (body_at (clear book) (length book.definitions + k) ≡ complement_row book (body_at book k))
 
 abbrev pub LaysOut : Type 0
-LaysOut = (limits : Limits) (book : Book) → Sealed limits book → (start : ℕ → ℕ) × Laid_out book start
+LaysOut = (limits : Limits) (book : Book) → Sealed limits book → (start : ℕ → ℕ) × LaidOut book start

@@ -1,6 +1,6 @@
 -- What a document is: its values by node number. A list holds the nodes of its elements, an object the names and nodes of its members.
 use Rattle.std.specs.Prelude.{ℕ, ◌<◌, Bool, List, [], ◌∷◌, map, length, Some, None, Option, slice_index_or}
-use Rattle.std.specs.List.{AllByRecursion as All}
+use Rattle.std.specs.List.{AllByRecursion}
 use Rattle.rules.specs.declared.row.ValueType.{ValueType}
 use Rattle.rules.specs.declared.row.ValueType.TheVariants.{Null, Boolean, Number, Text, List as Listed, Object}
 
@@ -99,7 +99,7 @@ module _ {K : Type 0} where
 
 -- each node stands before its parts, and they are there
 abbrev pub PartsAfter : {K : Type 0} → List (Shape K) → Type 0
-PartsAfter doc = (n : ℕ) → n < length doc → All (λ m. (n < m) × (m < length doc)) (parts (shape_at doc n))
+PartsAfter doc = (n : ℕ) → n < length doc → AllByRecursion (λ m. (n < m) × (m < length doc)) (parts (shape_at doc n))
 
 -- node n is x, or lies above it
 pub data HoldsNode {K : Type 0} (doc : List (Shape K)) : ℕ → ℕ → Type 0 where

@@ -7,10 +7,10 @@ use Rattle.clear_book.proofs.answers.Goals as goal
 
 pub returns-in-Err : goal.returns-in-Err
 returns-in-Err c =
-    IfOk-weaker c.refused.result _ _ (λ v e. prints_refused decimal_kind _ c.clear-files-read.new.numbers _ _ c.in-Err.fault c.in-Err.ensures e) c.refused.ensures
+    IfOk-weaker c.refused.result _ _ (λ v e. prints_refused decimal_kind _ c.clear_files-read.new.numbers _ _ c.in-Err.fault c.in-Err.ensures e) c.refused.ensures
 
 pub returns : goal.returns
 returns c =
-    IfOk-weaker c.cleared-lines.result _ _
-    (λ v e. prints_cleared decimal_kind _ c.clear-files-read.new.numbers (book_of c.clear-files-read.new.out-rows c.clear-files-read.new.out-definitions) _ c.in-Ok.counts c.in-Ok.ensures e)
-    c.cleared-lines.ensures
+    IfOk-weaker c.cleared_lines.result _ _
+    (λ v e. prints_cleared decimal_kind _ c.clear_files-read.new.numbers (book_of c.clear_files-read.new.out_rows c.clear_files-read.new.out_definitions) _ c.in-Ok.counts c.in-Ok.ensures e)
+    c.cleared_lines.ensures

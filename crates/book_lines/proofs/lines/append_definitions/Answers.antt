@@ -9,8 +9,8 @@ loop-k-preserved c =
     let definitions = c.args.definitions.now in
     numbered_more (definition_line (own_count (length definitions))) (vec_items c.args.out.now) (vec_items c.loop-k.out) _ definitions c.loop-k.k 0
     c.loop-k-test.true c.loop-k.invariant
-    (c.in-ok-append-string.ensures
-    ∙ ap (λ l. vec_items c.loop-k.out ++ l) (c.in-ok-definition-line.ensures ∙ ap (λ d. definition_line d c.loop-k.k (get_or definitions c.loop-k.k 0)) c.own-count-own.ensures))
+    (c.in_ok-append_string.ensures
+    ∙ ap (λ l. vec_items c.loop-k.out ++ l) (c.in_ok-definition_line.ensures ∙ ap (λ d. definition_line d c.loop-k.k (get_or definitions c.loop-k.k 0)) c.own_count-own.ensures))
 
 pub returns : goal.returns
 returns c =

@@ -9,5 +9,5 @@ pub returns : goal.returns
 returns g c =
     IfOk-weaker c.append.result _ _
     (λ _ e. row_parts (vec_items c.args.out.now) _ _ _ (operator_word c.args.row) (operand_text g.K.Number.kind c.args.numbers.now c.args.row) c.args.r
-    (c.in-ok-append-string.ensures ∙ ap (λ l. vec_items c.args.out.now ++ l) c.in-ok-row-head.ensures) c.in-ok-append-operands.ensures e)
+    (c.in_ok-append_string.ensures ∙ ap (λ l. vec_items c.args.out.now ++ l) c.in_ok-row_head.ensures) c.in_ok-append_operands.ensures e)
     c.append.ensures

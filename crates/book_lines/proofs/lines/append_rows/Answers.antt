@@ -7,7 +7,7 @@ use Rattle.book_lines.proofs.lines.append_rows.Goals as goal
 pub loop-r-preserved : goal.loop-r-preserved
 loop-r-preserved g c =
     numbered_more (row_line g.K.Number.kind c.args.numbers.now) (vec_items c.args.out.now) (vec_items c.loop-r.out) _ c.args.rows.now c.loop-r.r _
-    c.loop-r-test.true c.loop-r.invariant c.in-ok-append-row.ensures
+    c.loop-r-test.true c.loop-r.invariant c.in_ok-append_row.ensures
 
 pub returns : goal.returns
 returns g c =

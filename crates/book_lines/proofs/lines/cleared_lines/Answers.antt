@@ -4,5 +4,5 @@ use Rattle.book_lines.proofs.lines.cleared_lines.Goals as goal
 
 pub returns : goal.returns
 returns g c =
-    book_parts _ _ _ _ _ _ _ _ c.new-out.ensures.items c.in-ok-append-rows.ensures c.in-ok-append-definitions.ensures
-    c.in-ok-append-string.ensures c.in-ok-counts-line.ensures
+    book_parts _ _ _ _ _ _ _ _ c.new-out.ensures.items c.in_ok-append_rows.ensures c.in_ok-append_definitions.ensures
+    c.in_ok-append_string.ensures c.in_ok-counts_line.ensures

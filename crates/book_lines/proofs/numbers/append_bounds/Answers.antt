@@ -5,9 +5,9 @@ use Rattle.book_lines.specs.Lines.{number_text}
 use Rattle.book_lines.proofs.Appends.{three_parts}
 use Rattle.book_lines.proofs.numbers.append_bounds.Goals as goal
 
-pub returns-in-ok-append-number : goal.returns-in-ok-append-number
-returns-in-ok-append-number g c =
+pub returns-in_ok-append_number : goal.returns-in_ok-append_number
+returns-in_ok-append_number g c =
     rw (c.in-Some-Some.is-0, c.in-Some-Some.is-1)
-    (IfOk-weaker c.append-number-in-Some-Some.result _ _
-    (λ _ e. three_parts (vec_items c.args.out.now) _ _ (codes " ") (number_text g.K.Number.kind c.args.numbers.now c.in-Some-Some.lower) _ c.in-ok-append-number.ensures e)
-    c.append-number-in-Some-Some.ensures)
+    (IfOk-weaker c.append_number-in-Some-Some.result _ _
+    (λ _ e. three_parts (vec_items c.args.out.now) _ _ (codes " ") (number_text g.K.Number.kind c.args.numbers.now c.in-Some-Some.lower) _ c.in_ok-append_number.ensures e)
+    c.append_number-in-Some-Some.ensures)

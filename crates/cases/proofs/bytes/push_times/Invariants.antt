@@ -4,4 +4,4 @@ use Rattle.cases.proofs.bytes.push_times.Given as goal
 
 abbrev pub invariant-loop-turn : goal.invariant-loop-turn
 invariant-loop-turn l =
-    (vec_len l.out ≤ longest) × (vec_items l.out ≡ vec_items l.initial.out ++ times l.-turn l.bytes)
+    (vec_len l.out ≤ longest) × (vec_items l.out ≡ vec_items l.initial.out ++ times l._turn l.bytes)

@@ -7,18 +7,18 @@ use Rattle.cases.proofs.bytes.read_pieces.Goals as goal
 
 pub loop-piece-preserved : goal.loop-piece-preserved
 loop-piece-preserved c =
-    piece_more (vec_items c.loop-piece.bytes) c.in-Some.piece.now _ (parts_left c.next-part.new.self) _ _ _
-    c.push-piece.new.out.ok.0 c.in-Some.ensures c.in-ok-push-piece.ensures c.loop-piece.invariant.1
+    piece_more (vec_items c.loop-piece.bytes) c.in-Some.piece.now _ (parts_left c.next_part.new.self) _ _ _
+    c.push_piece.new.out.ok.0 c.in-Some.ensures c.in_ok-push_piece.ensures c.loop-piece.invariant.1
 
-pub returns-in-err-push-piece : goal.returns-in-err-push-piece
-returns-in-err-push-piece c =
-    let p = err_from_is_err_and c.from-residual.result c.from-residual.ensures.1 in
+pub returns-in_err-push_piece : goal.returns-in_err-push_piece
+returns-in_err-push_piece c =
+    let p = err_from_is_err_and c.from_residual.result c.from_residual.ensures.1 in
     rw (p.1, p.2)
-    (piece_broken (vec_items c.loop-piece.bytes) c.in-Some.piece.now (parts_left c.next-part.new.self) _ _
-    c.in-err-push-piece.field-0.0 c.push-piece.new.out c.in-Some.ensures c.in-err-push-piece.ensures
+    (piece_broken (vec_items c.loop-piece.bytes) c.in-Some.piece.now (parts_left c.next_part.new.self) _ _
+    c.in_err-push_piece.field-0.0 c.push_piece.new.out c.in-Some.ensures c.in_err-push_piece.ensures
     (c.loop-piece.invariant.1 ∙ ap pieces_bytes c.new-pieces.ensures))
 
 pub returns : goal.returns
 returns c =
     pieces_done (vec_items c.loop-piece.bytes) _ _ _ c.loop-piece.bytes.ok.0 c.loop-piece.invariant.0
-    c.in-default.ensures.0 (c.loop-piece.invariant.1 ∙ ap pieces_bytes c.new-pieces.ensures)
+    c.in_default.ensures.0 (c.loop-piece.invariant.1 ∙ ap pieces_bytes c.new-pieces.ensures)

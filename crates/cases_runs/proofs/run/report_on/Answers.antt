@@ -4,6 +4,6 @@ use Rattle.cases_runs.proofs.run.report_on.Goals as goal
 
 pub returns : goal.returns
 returns g c =
-    reported g.S.Sort.sorts g.S.Sort.word g.S.Sort.comes c.args.input.now c.args.tallies.now c.run-lines.new.tallies (string_bytes c.new-report.result)
-    (string_bytes c.run-lines.new.report) (string_bytes c.in-ok-counts-text.field-0) c.as-str.result.now (string_bytes c.push-str.new.self) c.new-report.ensures.bytes
-    c.in-ok-run-lines.ensures c.in-ok-counts-text.ensures c.as-str.ensures.value c.in-ok-push-str.ensures.bytes
+    reported g.S.Sort.sorts g.S.Sort.word g.S.Sort.comes c.args.input.now c.args.tallies.now c.run_lines.new.tallies (string_bytes c.new-report.result)
+    (string_bytes c.run_lines.new.report) (string_bytes c.in_ok-counts_text.field-0) c.as_str.result.now (string_bytes c.push_str.new.self) c.new-report.ensures.bytes
+    c.in_ok-run_lines.ensures c.in_ok-counts_text.ensures c.as_str.ensures.value c.in_ok-push_str.ensures.bytes

@@ -4,5 +4,5 @@ use Rattle.cases_runs.proofs.run.run.Goals as goal
 
 pub returns : goal.returns
 returns g c =
-    started g.S.Sort.sorts g.S.Sort.word g.S.Sort.comes c.report-on.result c.args.input.now c.as-mut-slice.result.now (vec_items c.in-ok-tallies.tallies) c.new.result
-    c.count.result c.as-mut-slice.ensures.value (c.in-ok-tallies.ensures.items-if-clones-equal (λ y h. h)) c.new.ensures c.count.ensures.0 c.report-on.ensures
+    started g.S.Sort.sorts g.S.Sort.word g.S.Sort.comes c.report_on.result c.args.input.now c.as_mut_slice.result.now (vec_items c.in_ok-tallies.tallies) c.new.result
+    c.count.result c.as_mut_slice.ensures.value (c.in_ok-tallies.ensures.items_if_clones_equal (λ y h. h)) c.new.ensures c.count.ensures.0 c.report_on.ensures

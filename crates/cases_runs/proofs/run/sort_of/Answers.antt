@@ -5,4 +5,4 @@ use Rattle.std.proofs.lemmas.Bool.Decides.{Decides-eqb}
 
 pub returns-in-loop-place : goal.returns-in-loop-place
 returns-in-loop-place g c =
-    (sym c.in-Some.ensures, sym c.name.ensures ∙ sym c.as-bytes.ensures.value ∙ (slice_eq-Decides Decides-eqb _ _ _ c.eq.ensures).0 c.if-eq.true)
+    (sym c.in-Some.ensures, sym c.name.ensures ∙ sym c.as_bytes.ensures.value ∙ (slice_eq-Decides Decides-eqb _ _ _ c.eq.ensures).0 c.if-eq.true)

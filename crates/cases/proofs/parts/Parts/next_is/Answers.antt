@@ -1,6 +1,5 @@
 use Rattle.std.proofs.Common.{drop, sym, ap}
 use Rattle.std.proofs.lemmas.Slice.Eq.{slice_eq-Decides}
-use Rattle.cases.specs.Lefts.{parts_left}
 use Rattle.cases.proofs.Taking.{is_next}
 use Rattle.cases.proofs.parts.Parts.next_is.Goals as goal
 use Rattle.std.proofs.lemmas.Bool.Decides.{Decides-eqb}
