@@ -1,6 +1,6 @@
 -- Books in the form that clearing gives.
 use Rattle.std.proofs.Common.{◌≡◌, ℕ, zero, suc, ◌+◌, ◌%◌, ◌<◌, ◌≤◌, Bool, true, false, List, [], ◌∷◌, length, get_or, Ok, sym, refl, ap, ◌∙◌, subst, ap₂, ⊎_elim, arith}
-use Rattle.std.specs.List.{AllByRecursion as All}
+use Rattle.std.specs.List.{AllByRecursion}
 use Rattle.std.proofs.lemmas.List.{get_or_default}
 use Rattle.std.proofs.lemmas.Bool.{cases_lt}
 use Rattle.rules.specs.declared.row.Row.{Row}
@@ -69,12 +69,12 @@ nothing_allowed limits zero h = tt
 nothing_allowed limits (suc zero) h = tt
 nothing_allowed limits (suc (suc r)) h = absurd (omega arith)
 
-nothing_lower : (r : ℕ) → r < 2 → All (λ o. o < r) (operands (row_at nothing r))
+nothing_lower : (r : ℕ) → r < 2 → AllByRecursion (λ o. o < r) (operands (row_at nothing r))
 nothing_lower zero h = tt
 nothing_lower (suc zero) h = tt
 nothing_lower (suc (suc r)) h = absurd (omega arith)
 
-nothing_defined : (r : ℕ) → r < 2 → All (λ v. v < 2) (variables (row_at nothing r))
+nothing_defined : (r : ℕ) → r < 2 → AllByRecursion (λ v. v < 2) (variables (row_at nothing r))
 nothing_defined zero h = tt
 nothing_defined (suc zero) h = tt
 nothing_defined (suc (suc r)) h = absurd (omega arith)
