@@ -1,5 +1,5 @@
 -- What stands in front of the memories after reading, and after clearing.
-use Rattle.std.proofs.Common.{◌≡◌, ℕ, ◌+◌, ◌-◌, ◌*◌, ◌≤◌, List, ◌++◌, map, length, take, Ok, Err, Result, sym, refl, ap, ◌∙◌, subst, arith, length-append}
+use Rattle.std.proofs.Common.{◌≡◌, ℕ, ◌-◌, ◌*◌, ◌≤◌, List, ◌++◌, map, length, take, Ok, Err, Result, sym, refl, ap, ◌∙◌, subst, arith, length-append}
 use native.Mathlib.Nat.{sub-zero}
 use Rattle.std.proofs.lemmas.List.{length-map, take_at}
 use Rattle.numbers.specs.Kinds.{Kind}
@@ -7,15 +7,16 @@ use Rattle.rules.specs.Book.{Book, limits_of, Sealed}
 use Rattle.rules.specs.Clear.{clear, positive_row, complement_row}
 use Rattle.books.specs.Guard.{book_of}
 use Rattle.books.specs.declared.fault.BookFault.{BookFault}
-use Rattle.book_files.specs.Drafts.{Draft, Memory, Room, room_of, numbers, book, counts_of}
+use Rattle.book_files.specs.Drafts.{Draft, Memory, room_of, numbers, book, counts_of}
 use Rattle.book_files.specs.Files.{ComesTo, Filled, Reads}
 use Rattle.book_files.specs.declared.reading.BookCounts.{BookCounts}
-use Rattle.clearing.specs.Outcomes.{Outcome, Writes, front_book}
+use Rattle.clearing.specs.Outcomes.{Writes}
+use Rattle.clearing.specs.Sealed.{ViewOutcome}
 use Rattle.clearing.specs.declared.fault.ClearFault.{ClearFault}
 use Rattle.clearing.specs.declared.fault.ClearFault.TheVariants.{TooManyRows, TooManyDefinitions}
 use Rattle.clear_book.specs.declared.fault.Fault.{Fault}
 use Rattle.clear_book.specs.declared.fault.Fault.TheVariants.{Book as BookRefused, Clearing}
-use Rattle.clear_book.specs.Files.{Shown, shown, Unfit, BookComes, Settled, Stands, Ends}
+use Rattle.clear_book.specs.Files.{shown, Unfit, BookComes, Settled, Stands, Ends}
 use Rattle.clear_book.proofs.Reading.{is_refused, is_read}
 use Rattle.book_files.proofs.Whole.{comes_file}
 use Rattle.clear_book.proofs.Settling.{book_refused, book_unfit, book_cleared}
@@ -38,7 +39,7 @@ doubled whole =
     let b = length-map whole.definitions (complement_row whole) in
     length-append (map (positive_row whole) whole.definitions) (map (complement_row whole) whole.definitions) ∙ omega (arith, a, b)
 
-unfit : (whole memory memory' : Book) (f : ClearFault) → Outcome whole memory memory' (Err f) → Unfit whole memory f
+unfit : (whole memory memory' : Book) (f : ClearFault) → ViewOutcome whole memory memory' (Err f) → Unfit whole memory f
 unfit whole memory memory' TooManyRows o = o.0
 unfit whole memory memory' TooManyDefinitions o = (o.0, o.1)
 
@@ -97,11 +98,11 @@ module _ {K : Type 0} (kind : Kind K) (p : ℕ) (file : List ℕ) (before after 
         subst (λ ns. Sealed (limits_of kind p ns) (slices counts after)) (sym (from_start counts.numbers after.numbers ∙ numbers_front))
         (subst (λ b. Sealed (limits_of kind p (numbers draft)) b) (sym slices_are) (comes_file kind p before file draft settled.0).sealed)
 
-    draft_unfit : (memory memory' : Book) (f : ClearFault) (r : Result BookCounts Fault) → Outcome (slices counts after) memory memory' (Err f) → r ≡ Err (Clearing f) →
+    draft_unfit : (memory memory' : Book) (f : ClearFault) (r : Result BookCounts Fault) → ViewOutcome (slices counts after) memory memory' (Err f) → r ≡ Err (Clearing f) →
         Ends (BookComes kind (room_of before) memory file p) after.numbers memory' r
     draft_unfit memory memory' f r o is = record {
       end = Err (Clearing f);
-      settled = book_unfit kind (room_of before) memory file p draft f settled (unfit (book draft) memory memory' f (subst (λ b. Outcome b memory memory' (Err f)) slices_are o));
+      settled = book_unfit kind (room_of before) memory file p draft f settled (unfit (book draft) memory memory' f (subst (λ b. ViewOutcome b memory memory' (Err f)) slices_are o));
       leaves = is;
     }
 
@@ -118,10 +119,10 @@ module _ {K : Type 0} (kind : Kind K) (p : ℕ) (file : List ℕ) (before after 
               ∙ ap (λ ds. book_of (clear (book draft)).rows ds) (front memory'.definitions (clear (book draft)).definitions _ (2 * counts.definitions) w.definitions d);
         }
 
-    draft_cleared : (memory memory' : Book) (n : ℕ) → Outcome (slices counts after) memory memory' (Ok n) →
+    draft_cleared : (memory memory' : Book) (n : ℕ) → ViewOutcome (slices counts after) memory memory' (Ok n) →
         Ends (BookComes kind (room_of before) memory file p) after.numbers memory' (Ok (cleared_counts counts n))
     draft_cleared memory memory' n o =
-        let w = subst (λ b. Outcome b memory memory' (Ok n)) slices_are o in
+        let w = subst (λ b. ViewOutcome b memory memory' (Ok n)) slices_are o in
         record {
           end = Ok (shown draft);
           settled = book_cleared kind (room_of before) memory file p draft settled w.rows_fit w.definitions_fit;
@@ -142,10 +143,10 @@ module _ {K : Type 0} (kind : Kind K) (p : ℕ) (file : List ℕ) (before after 
     pub slices_sealed : Sealed (limits_of kind p (take (counts.numbers - 0) after.numbers)) (slices counts after)
     slices_sealed = let d = is_read kind before after reads.outcome counts reads.leaves in draft_sealed counts d.0 (subst (Settled Read) d.1 (reads.comes, reads.only)) d.2 d.3
 
-    pub ends_unfit : (memory memory' : Book) (f : ClearFault) (r : Result BookCounts Fault) → Outcome (slices counts after) memory memory' (Err f) → r ≡ Err (Clearing f) →
+    pub ends_unfit : (memory memory' : Book) (f : ClearFault) (r : Result BookCounts Fault) → ViewOutcome (slices counts after) memory memory' (Err f) → r ≡ Err (Clearing f) →
         Ends (BookComes kind (room_of before) memory file p) after.numbers memory' r
     ends_unfit = let d = is_read kind before after reads.outcome counts reads.leaves in draft_unfit counts d.0 (subst (Settled Read) d.1 (reads.comes, reads.only)) d.2 d.3
 
-    pub ends_cleared : (memory memory' : Book) (n : ℕ) → Outcome (slices counts after) memory memory' (Ok n) →
+    pub ends_cleared : (memory memory' : Book) (n : ℕ) → ViewOutcome (slices counts after) memory memory' (Ok n) →
         Ends (BookComes kind (room_of before) memory file p) after.numbers memory' (Ok (cleared_counts counts n))
     ends_cleared = let d = is_read kind before after reads.outcome counts reads.leaves in draft_cleared counts d.0 (subst (Settled Read) d.1 (reads.comes, reads.only)) d.2 d.3

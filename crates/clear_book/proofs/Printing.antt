@@ -7,7 +7,6 @@ use Rattle.rules.specs.Book.{Book}
 use Rattle.books.specs.Guard.{book_of}
 use Rattle.book_files.specs.Drafts.{Room}
 use Rattle.book_files.specs.declared.reading.BookCounts.{BookCounts}
-use Rattle.clearing.specs.Outcomes.{front_book}
 use Rattle.book_lines.specs.Lines.{book_text}
 use Rattle.clear_book.specs.declared.fault.Fault.{Fault}
 use Rattle.clear_book.specs.declared.fault.Fault.TheVariants.{Patterns}

@@ -1,5 +1,5 @@
 -- Each way out is one thing that the files come to, and there is no other.
-use Rattle.std.proofs.Common.{◌≡◌, ℕ, ◌⊎◌, List, Ok, Err, Result, sym, refl, ap, ◌∙◌, subst, inl, inr}
+use Rattle.std.proofs.Common.{◌≡◌, ℕ, List, Ok, Err, Result, sym, refl, ap, ◌∙◌, subst, inl, inr}
 use Rattle.dialects.specs.declared.fault.PatternFault.{PatternFault}
 use Rattle.numbers.specs.Kinds.{Kind}
 use Rattle.rules.specs.Book.{Book}
@@ -9,9 +9,8 @@ use Rattle.book_files.specs.Files.{ComesTo}
 use Rattle.clearing.specs.Outcomes.{RowsFit, DefinitionsFit}
 use Rattle.clearing.specs.declared.fault.ClearFault.{ClearFault}
 use Rattle.clearing.specs.declared.fault.ClearFault.TheVariants.{TooManyRows, TooManyDefinitions}
-use Rattle.clear_book.specs.declared.fault.Fault.{Fault}
 use Rattle.clear_book.specs.declared.fault.Fault.TheVariants.{Patterns, Book as BookRefused, Clearing}
-use Rattle.clear_book.specs.Files.{Counts, Shown, End, shown, Unfit, BookComes, Comes, Settled}
+use Rattle.clear_book.specs.Files.{Counts, End, shown, Unfit, BookComes, Comes, Settled}
 use Rattle.clear_book.proofs.Reading.{never, same_ok, same_err}
 
 -- what fits is not refused, and what is refused is so for one reason

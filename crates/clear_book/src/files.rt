@@ -3,14 +3,14 @@ ghost use Rattle.dialects.specs.Files.{room};
 ghost use Rattle.rules.specs.Book.{limits_of, Sealed};
 ghost use Rattle.books.specs.Guard.{book_of};
 ghost use Rattle.book_files.specs.Drafts.{memory, room_of};
-ghost use Rattle.clearing.specs.Outcomes.{Outcome};
+ghost use Rattle.clearing.specs.Sealed.{ViewOutcome};
 ghost use Rattle.clear_book.specs.Files.{Counts, Settled, BookComes, Comes, Ends};
 
 use crate::fault::Fault;
 use book_files::reading::{BookCounts, read_book};
 use books::book::Book;
-use clearing::clear;
 use clearing::fault::ClearFault;
+use clearing::sealed::clear_sealed;
 use dialects::fault::PatternFault;
 use dialects::reading::{read_masks, read_names};
 use fields::part::Part;
@@ -30,7 +30,7 @@ fn pattern_count(names: &[u8], masks: &[u8], parts: &mut [Part]) -> Result<usize
 }
 
 // Seals a book that passes, and clears it.
-fn clear_sealed<'a, K: Number>(
+fn clear_passed<'a, K: Number>(
     rows: &'a [Row],
     definitions: &'a [u16],
     numbers: &[K],
@@ -39,10 +39,10 @@ fn clear_sealed<'a, K: Number>(
     out_definitions: &mut [u16],
 ) -> Result<usize, ClearFault>
     requires { Sealed (limits_of K.Number.kind patterns numbers.now) (book_of rows.now definitions.now) }
-    ensures { Outcome (book_of rows.now definitions.now) (book_of out_rows.old out_definitions.old) (book_of out_rows.new out_definitions.new) result }
+    ensures { ViewOutcome (book_of rows.now definitions.now) (book_of out_rows.old out_definitions.old) (book_of out_rows.new out_definitions.new) result }
 {
     let book = Book::seal(rows, definitions, numbers, patterns);
-    clear(&book, out_rows, out_definitions)
+    clear_sealed(&book, out_rows, out_definitions)
 }
 
 // Reads a book for so many patterns and clears it. Answers the counts of the cleared book.
@@ -61,7 +61,7 @@ fn clear_file<K: Number>(
     let number_count = counts.numbers;
     let row_count = counts.rows;
     let definition_count = counts.definitions;
-    let cleared = clear_sealed(
+    let cleared = clear_passed(
         &rows[0..row_count],
         &definitions[0..definition_count],
         &numbers[0..number_count],

@@ -1,4 +1,6 @@
 // Clears the rule book of the files `names`, `masks` and `book`, and prints it.
+#![tactic(auto)]
+
 ghost use Rattle.std.specs.Prelude.{◌≡◌, IfOk, Err};
 ghost use Rattle.dialects.specs.Files.{room};
 ghost use Rattle.kinds.specs.Decimals.{decimal_kind};
