@@ -1,3 +1,5 @@
+#![tactic(auto)]
+
 // Worked examples of pattern files and dialects, from a railway.
 #[cfg(test)]
 mod files;
