@@ -1,24 +1,22 @@
 -- A file that is read to its end is that of a sealed book, and the other way round.
-use Rattle.std.proofs.Common.{◌≡◌, ℕ, ◌+◌, ◌-◌, ◌*◌, ◌<◌, ◌≤◌, min, Bool, true, false, not, eqb, List, [], ◌∷◌, ◌++◌, map, length, get_or, take, drop, replicate, is_err, Ok, Err, Result, sym, refl, ap, ◌∙◌, subst, inl, inr, ⊎_elim, arith, length-append}
+use Rattle.std.proofs.Common.{◌≡◌, ℕ, ◌+◌, ◌-◌, ◌*◌, ◌<◌, ◌≤◌, true, false, not, eqb, List, [], ◌∷◌, ◌++◌, length, take, replicate, is_err, Ok, Err, Result, sym, refl, ap, ◌∙◌, subst, inl, inr, ⊎_elim, arith, length-append}
 use Rattle.std.proofs.lemmas.List.{append-nil, take_at, get_or_default, length-map}
 use Rattle.std.proofs.lemmas.Bool.{cases_lt, eqb-false, ne_eqb, not-true, not_from_false}
 use Rattle.std.specs.Result.{result_and}
 use Rattle.std.specs.List.{AllByRecursion}
 use Rattle.numbers.specs.Kinds.{Kind}
 use Rattle.kinds.specs.Causes.{outcome}
-use Rattle.rules.specs.Book.{Book, Limits, limits_of, reach, row_at, body_at, variables, Guarded, Sealed}
-use Rattle.rules.specs.declared.row.Row.{Row}
+use Rattle.rules.specs.Book.{limits_of, reach, row_at, Guarded, Sealed}
 use Rattle.rules.specs.declared.row.Row.TheVariants.{False}
 use Rattle.rows.specs.Rows.{row_bytes}
-use Rattle.books.specs.Guard.{Lowest, book_of}
 use Rattle.books.specs.Sealing.{plain_test, ComesTo as ComesTested}
 use Rattle.books.specs.Tests.{Tested, passes, ask, variable_test, first_refused}
 use Rattle.books.specs.declared.fault.BookFault.{BookFault}
 use Rattle.books.specs.declared.fault.BookFault.TheVariants.{FileTooLong, NoDefinition}
 use Rattle.books.proofs.Keeping.{Kept, both_pass, pass_both, asked, asks, refused_passes, each, all, call_from, call_back, kept_back, kept_sealed}
 use Rattle.book_files.specs.declared.reading.BookCounts.{BookCounts}
-use Rattle.book_files.specs.Drafts.{Numeral, Draft, Memory, Room, room_of, number_fields, row_fields, definition_fields, file, row_place, numbers, book, body_bytes, counts_of}
-use Rattle.book_files.specs.Files.{Each, limits, NumberFits, RowFits, BodyFits, Fits, end_test, Ends, Stops, ReadsTo, ComesTo, IsFile, Filled, Erased, Leaves, Reads, Granted}
+use Rattle.book_files.specs.Drafts.{Numeral, Draft, Memory, room_of, number_fields, row_fields, definition_fields, file, row_place, numbers, book, body_bytes}
+use Rattle.book_files.specs.Files.{Each, limits, NumberFits, RowFits, BodyFits, Fits, end_test, Stops, ComesTo, IsFile, Erased, Reads, Granted}
 use Rattle.book_files.specs.Filling.{AllRead, end_of, TestsEnd, GrantedRead, ReadsWhole}
 use Rattle.book_files.proofs.Runs.{each_at, each_by, each_few, fields_length}
 use Rattle.book_files.proofs.Once.{only_outcome}
