@@ -44,9 +44,9 @@ module _ {K : Type 0} (kind : Kind K) (patterns : ℕ) where
         let ends = both_pass (ask (not (eqb d 0)) _) _ pass in
         let some : d ≡ 0 → ⊥ = eqb-false d 0 (not-true (eqb d 0) (asked (not (eqb d 0)) _ ends.0)) in
         let row = λ (r : ℕ) (lt : r < length draft.rows). each_at (RowFits (room_of before) (limits kind patterns draft)) draft.rows fits.rows r False lt in
-        let n-few = each_few (NumberFits kind (room_of before)) _ (λ n x p. p.0) draft.numerals fits.numerals in
-        let r-few = each_few (RowFits (room_of before) (limits kind patterns draft)) _ (λ n x p. p.0) draft.rows fits.rows in
-        let b-few = each_few (BodyFits (room_of before) (length draft.rows)) _ (λ n x p. p.0) draft.bodies fits.bodies in
+        let n_few = each_few (NumberFits kind (room_of before)) _ (λ n x p. p.0) draft.numerals fits.numerals in
+        let r_few = each_few (RowFits (room_of before) (limits kind patterns draft)) _ (λ n x p. p.0) draft.rows fits.rows in
+        let b_few = each_few (BodyFits (room_of before) (length draft.rows)) _ (λ n x p. p.0) draft.bodies fits.bodies in
         record {
           few_rows = omega arith;
           few_numbers = omega (arith, length-map draft.numerals (λ z. z.value));
@@ -86,22 +86,22 @@ module _ {K : Type 0} (kind : Kind K) (patterns : ℕ) where
 
     -- a file comes to what it is the file of
     file_comes : (bytes : List ℕ) (draft : Draft K) → IsFile kind patterns (room_of before) bytes draft → ComesTo kind patterns (room_of before) bytes (Ok draft)
-    file_comes bytes draft file-is =
+    file_comes bytes draft file_is =
         let d = length draft.bodies in
-        let s = file-is.sealed in (
-          λ long. absurd (omega (arith, file-is.short)),
+        let s = file_is.sealed in (
+          λ long. absurd (omega (arith, file_is.short)),
           λ short. record {
             draft = draft;
             rest = [];
-            cut = file-is.written ∙ sym (append-nil (file draft));
+            cut = file_is.written ∙ sym (append-nil (file draft));
             fits = record {
-              numerals = each_from_all draft.numerals 0 (omega (arith, file-is.numbers_fit)) file-is.read;
+              numerals = each_from_all draft.numerals 0 (omega (arith, file_is.numbers_fit)) file_is.read;
               rows = each_by (RowFits (room_of before) (limits kind patterns draft)) draft.rows (λ r x lt.
                   subst (RowFits (room_of before) (limits kind patterns draft) r) (get_or_default draft.rows r False x lt)
-                  (omega (arith, file-is.rows_fit), s.allowed r lt, s.lower r lt));
+                  (omega (arith, file_is.rows_fit), s.allowed r lt, s.lower r lt));
               bodies = each_by (BodyFits (room_of before) (length draft.rows)) draft.bodies (λ v x lt.
                   subst (BodyFits (room_of before) (length draft.rows) v) (get_or_default draft.bodies v 0 x lt)
-                  (omega (arith, file-is.bodies_fit), s.bodies v lt));
+                  (omega (arith, file_is.bodies_fit), s.bodies v lt));
             };
             stop = (
               refl,
@@ -226,8 +226,8 @@ module _ {K : Type 0} (kind : Kind K) (patterns : ℕ) where
     granted_read bytes after counts a = (a.draft, comes_file bytes a.draft a.comes, a.counted)
 
     pub granted_not : (bytes : List ℕ) (e : BookFault) → ComesTo kind patterns (room_of before) bytes (Err e) → Granted kind patterns (room_of before) bytes (Err e)
-    granted_not bytes e comes = λ draft file-is.
-        let same : ◌≡◌ {A = Result (Draft K) BookFault} (Ok draft) (Err e) = only_outcome kind patterns (room_of before) bytes (Err e) (Ok draft) comes (file_comes bytes draft file-is) in
+    granted_not bytes e comes = λ draft file_is.
+        let same : ◌≡◌ {A = Result (Draft K) BookFault} (Ok draft) (Err e) = only_outcome kind patterns (room_of before) bytes (Err e) (Ok draft) comes (file_comes bytes draft file_is) in
         let z : ◌≡◌ {A = ℕ} 0 1 = cc in omega arith
 
     -- the memory that is erased is as long as it was
