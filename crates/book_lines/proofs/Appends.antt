@@ -1,5 +1,5 @@
 -- Texts put one after another.
-use Rattle.std.proofs.Common.{◌≡◌, ℕ, ◌+◌, ◌<◌, ◌≤◌, List, [], ◌∷◌, ◌++◌, length, get_or, take, drop, Some, None, codes, Option, sym, refl, ap, ◌∙◌, append_assoc, append-nil, add-zero, arith, length-take-le}
+use Rattle.std.proofs.Common.{◌≡◌, ℕ, ◌+◌, ◌<◌, ◌≤◌, List, [], ◌∷◌, ◌++◌, length, get_or, take, Some, None, codes, Option, sym, ap, ◌∙◌, append_assoc, append-nil, add-zero, arith, length-take-le}
 use Rattle.std.proofs.lemmas.List.{drop_all, take_at, take_more, take_all}
 use Rattle.kinds.specs.Writing.{Written}
 use Rattle.book_lines.specs.Lines.{of_row, numbered}

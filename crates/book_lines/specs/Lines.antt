@@ -1,5 +1,5 @@
 -- The lines by which a planner reads a cleared book.
-use Rattle.std.specs.Prelude.{ℕ, ◌+◌, ◌-◌, ◌/◌, Bool, true, false, cond, List, [], ◌∷◌, ◌++◌, length, Some, None, codes, decimal, Option, nat_lt}
+use Rattle.std.specs.Prelude.{ℕ, ◌+◌, ◌-◌, ◌/◌, Bool, cond, List, [], ◌∷◌, ◌++◌, length, Some, None, codes, decimal, Option, nat_lt}
 use Rattle.numbers.specs.Kinds.{Kind}
 use Rattle.rules.specs.Book.{Book, number_at}
 use Rattle.rules.specs.declared.row.ValueType.{ValueType}

@@ -1,4 +1,6 @@
 // The text by which a planner reads a cleared book.
+#![tactic(auto)]
+
 pub mod lines;
-mod numbers;
+mod tokens;
 mod words;

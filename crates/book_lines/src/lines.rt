@@ -3,7 +3,7 @@ ghost use Rattle.std.specs.Prelude.{◌≡◌, ◌++◌, IfOk, string_bytes, OnO
 ghost use Rattle.book_lines.specs.Lines.{operand_text, row_line, definition_lines, numbered, book_text};
 ghost use Rattle.books.specs.Guard.{book_of};
 
-use crate::numbers::{append, append_bounds, append_number};
+use crate::tokens::{append, append_bounds, append_number};
 use crate::words::{
     count_text, counts_line, definition_line, member_text, own_count, range_text, row_head,
     type_text,

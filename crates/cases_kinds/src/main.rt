@@ -1,4 +1,6 @@
 // Runs the test vectors of the number kinds, which it reads from standard input, and prints what differs.
+#![tactic(auto)]
+
 mod answers;
 mod line;
 mod run;

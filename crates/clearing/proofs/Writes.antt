@@ -1,5 +1,5 @@
 -- What has been written of a cleared book.
-use Rattle.std.proofs.Common.{◌≡◌, ℕ, ◌+◌, ◌-◌, ◌<◌, ◌≤◌, List, [], ◌∷◌, ◌++◌, map, length, get_or, take, drop, set, sym, refl, ap, ◌∙◌, ap₂, append-nil, add-zero, add-one, arith, length-append, length-drop, take-append-drop, take-suc-set}
+use Rattle.std.proofs.Common.{◌≡◌, ℕ, ◌+◌, ◌-◌, ◌<◌, ◌≤◌, List, [], ◌∷◌, ◌++◌, map, length, get_or, take, drop, set, sym, refl, ap, ◌∙◌, ap₂, add-one, arith, length-append, length-drop, take-suc-set}
 use lib.Seq.{paste}
 use Rattle.std.proofs.lemmas.List.{get_or-map, length-map, drop-drop, drop_at}
 use Rattle.std.proofs.lemmas.List.Edits.{paste_more, paste_all, paste-paste}
@@ -11,9 +11,6 @@ use Rattle.rules.proofs.Standing.{row_more}
 use Rattle.clearing.specs.Writing.{written_over}
 
 module _ {A : Type 0} (E : List A) where
-  pub paste_none : (at : ℕ) (s : List A) → E ≡ paste E at s 0
-  paste_none at s = sym (ap₂ (λ xs k. xs ++ drop k E) (append-nil (take at E)) (add-zero at) ∙ take-append-drop at E)
-
   pub over_all : (s : List A) (n : ℕ) → n ≡ length s → paste E 0 s n ≡ written_over s E
   over_all s n e = let same : 0 + n ≡ length s = omega arith in paste_all E 0 s n e ∙ ap (λ k. s ++ drop k E) same
 

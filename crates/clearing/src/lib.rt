@@ -6,9 +6,12 @@ ghost use Rattle.clearing.specs.Outcomes.{book_of, Outcome, Seals};
 
 mod added;
 mod adding;
+pub mod cleared;
 mod complements;
 mod counting;
 pub mod fault;
+pub mod form;
+pub mod sealed;
 pub mod theorems;
 mod writing;
 

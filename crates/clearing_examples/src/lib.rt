@@ -3,5 +3,8 @@
 
 #[cfg(test)]
 mod books;
+mod into;
 #[cfg(test)]
 mod limits;
+#[cfg(test)]
+mod views;

@@ -1,14 +1,14 @@
 -- What has been read when some patterns of a file are filled in.
-use Rattle.std.proofs.Common.{◌≡◌, ℕ, ◌+◌, ◌-◌, ◌<◌, ◌≤◌, min, Bool, false, leb, List, [], ◌∷◌, ◌++◌, map, length, get_or, take, drop, set, Some, None, Ok, Err, sym, refl, ap, ◌∙◌, subst, append_assoc, arith, length-append, length-drop}
+use Rattle.std.proofs.Common.{◌≡◌, ℕ, ◌+◌, ◌<◌, ◌≤◌, leb, List, [], ◌∷◌, ◌++◌, length, get_or, take, drop, set, Some, None, Ok, Err, sym, refl, ap, ◌∙◌, append_assoc, arith, length-append, length-drop}
 use Rattle.fields.specs.Fields.{field_bytes, stated_length}
-use Rattle.fields.specs.Parts.{part, part_bytes}
+use Rattle.fields.specs.Parts.{part}
 use Rattle.fields.specs.declared.part.Part.{Part}
 use Rattle.std.proofs.lemmas.List.{append-nil, drop-drop, drop_all, drop_more, set_at, length_push, length-take-le}
 use Rattle.std.proofs.lemmas.Bool.{leb-false}
 use Rattle.dialects.specs.declared.fault.PatternFault.{PatternFault}
 use Rattle.dialects.specs.Files.{file, Short, places, room, refuses}
 use Rattle.dialects.specs.Reading.{Fills}
-use Rattle.dialects.proofs.Rows.{Good, good_from, good_cut, file_push, short_push, places_push, length_places}
+use Rattle.dialects.proofs.Rows.{good_from, good_cut, file_push, short_push, places_push, length_places}
 
 pub record Begun (tag : ℕ) (bytes : List ℕ) (before now : List Part) (count at : ℕ) : Type 0 where
   pub patterns : List (List ℕ)

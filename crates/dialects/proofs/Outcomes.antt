@@ -1,10 +1,10 @@
 -- What reading a whole file comes to.
-use Rattle.std.proofs.Common.{◌≡◌, ℕ, ◌+◌, ◌<◌, ◌≤◌, true, false, List, [], ◌++◌, map, length, take, drop, replicate, is_err, Ok, Err, Result, sym, refl, ap, ◌∙◌, subst, arith}
+use Rattle.std.proofs.Common.{◌≡◌, ℕ, ◌≤◌, true, false, List, [], ◌++◌, map, length, take, drop, replicate, is_err, Ok, Err, Result, sym, refl, ap, ◌∙◌, arith}
 use Rattle.fields.specs.Parts.{part, part_bytes}
 use Rattle.fields.specs.declared.part.Part.{Part}
 use Rattle.std.proofs.lemmas.List.{append-nil, take_at}
 use Rattle.dialects.specs.declared.fault.PatternFault.{PatternFault}
-use Rattle.dialects.specs.Files.{file, Short, places, room, ReadsTo, Outcome, After}
+use Rattle.dialects.specs.Files.{file, places, room, ReadsTo, Outcome, After}
 use Rattle.dialects.specs.Reading.{Fills}
 use Rattle.dialects.proofs.Rows.{same_patterns, length_places, places_read}
 

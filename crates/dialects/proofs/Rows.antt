@@ -1,15 +1,13 @@
 -- Files of patterns: what a field's bytes say, and that a file can be taken apart in one way only.
-use Rattle.std.proofs.Common.{◌≡◌, ℕ, suc, ◌+◌, ◌-◌, ◌*◌, ◌/◌, ◌%◌, ◌<◌, ◌≤◌, Bool, true, false, cond, not, ◌||◌, eqb, ltb, leb, List, [], ◌∷◌, ◌++◌, map, length, get_or, take, drop, set, Some, None, Ok, Err, Option, Result, sym, refl, ap, ◌∙◌, subst, ⊎_elim, append_assoc, add-zero, arith, length-append, length-drop}
+use Rattle.std.proofs.Common.{◌≡◌, ℕ, suc, ◌+◌, ◌<◌, ◌≤◌, Bool, true, false, cond, not, ◌||◌, eqb, ltb, leb, List, [], ◌∷◌, ◌++◌, map, length, take, drop, Some, None, Ok, Err, Option, Result, sym, refl, ap, ◌∙◌, subst, ⊎_elim, append_assoc, add-zero, arith, length-append}
 use native.Mathlib.Nat.{div-add-mod}
 use Rattle.fields.proofs.Rows.{field_cut, same_field}
 use Rattle.fields.specs.Fields.{field_bytes, tag_of, stated_length}
 use Rattle.fields.specs.Parts.{part, part_bytes}
-use Rattle.fields.specs.declared.part.Part.{Part}
-use Rattle.std.proofs.lemmas.List.{append-nil, take_at, drop_at, drop-drop, take-append-drop, length-take-le}
+use Rattle.std.proofs.lemmas.List.{append-nil, take_at, drop_at, drop-drop}
 use Rattle.std.proofs.lemmas.Bool.{cases_lt, ltb-false, eqb-true, not-false, or_parts, le-ltb, eq-eqb, lt-leb}
 use Rattle.dialects.specs.declared.fault.PatternFault.{PatternFault}
-use Rattle.dialects.specs.declared.fault.PatternFault.TheVariants.{FileTooLong, UnknownTag, WrongLength, TooMany}
-use Rattle.dialects.specs.Files.{file, Short, places, room, refuses, Stops, ReadsTo, Outcome, After}
+use Rattle.dialects.specs.Files.{file, Short, places, refuses, Stops, Outcome}
 
 -- a test that refuses nothing came out false
 cond_none : {A : Type 0} (b : Bool) (e : A) (rest : Option A) → cond b (Some e) rest ≡ None → (b ≡ false) × (rest ≡ None)

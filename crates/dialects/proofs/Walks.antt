@@ -1,10 +1,10 @@
 -- The steps that compare a mask with a string.
-use Rattle.std.proofs.Common.{◌≡◌, ℕ, zero, suc, ◌+◌, ◌-◌, ◌*◌, ◌<◌, ◌≤◌, Bool, true, false, cond, ◌&&◌, ◌||◌, eqb, ◌≢◌, ◌⊎◌, List, [], ◌∷◌, length, get_or, drop, Some, None, Option, sym, refl, ap, ◌∙◌, subst, inl, inr, ⊎_elim, add_assoc, mul-le-mul_right, add-mul, arith, eq-eqb, ne_eqb}
+use Rattle.std.proofs.Common.{◌≡◌, ℕ, ◌+◌, ◌-◌, ◌<◌, ◌≤◌, true, false, ◌||◌, eqb, ◌≢◌, List, [], length, get_or, drop, Some, None, Option, sym, ap, ◌∙◌, add_assoc, mul-le-mul_right, add-mul, arith, ne_eqb}
 use Rattle.std.proofs.lemmas.List.{drop_more, drop_all, drop-drop}
 use Rattle.dialects.specs.declared.matcher.Cursor.{Cursor}
 use Rattle.dialects.specs.declared.matcher.Retry.{Retry}
-use Rattle.dialects.specs.Masks.{star, any_byte, is_empty, some_tail, byte_then, mask_holds}
-use Rattle.dialects.specs.Cursors.{from, later, still, Ahead, Sound, trying_from, next_try, tries, steps_left, Steps}
+use Rattle.dialects.specs.Masks.{star, any_byte, some_tail, byte_then, mask_holds}
+use Rattle.dialects.specs.Cursors.{from, later, still, Ahead, Sound, trying_from, next_try, tries, Steps}
 use Rattle.dialects.proofs.Tails.{or_absorbs, some_tail_more, some_tail_gives, some_tail_longer, byte_then_rest}
 
 module _ (mask text : List ℕ) where

@@ -1,4 +1,6 @@
 // Dialects of patterns: what a pattern number means, and the files that patterns are read from.
+#![tactic(auto)]
+
 pub mod dialect;
 pub mod fault;
 mod list;

@@ -1,4 +1,6 @@
 // Tells for each text of its input which patterns of the files `names` and `masks` match it.
+#![tactic(auto)]
+
 ghost use Rattle.std.specs.Prelude.{◌≡◌, IfOk};
 ghost use Rattle.dialects.specs.Files.{room};
 ghost use Rattle.patterns.specs.Answers.{Prints, refused_line, side_by_side};

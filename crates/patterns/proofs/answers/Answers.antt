@@ -11,17 +11,17 @@ returns-in-Err c =
     c.in-Err.fault c.in-Err.ensures.only e)
     c.refused.ensures
 
-pub returns-in-Err-read-masks : goal.returns-in-Err-read-masks
-returns-in-Err-read-masks c =
-    IfOk-weaker c.refused-in-Err-read-masks.result _ _
+pub returns-in-Err-read_masks : goal.returns-in-Err-read_masks
+returns-in-Err-read_masks c =
+    IfOk-weaker c.refused-in-Err-read_masks.result _ _
     (λ v e. prints_masks_refused (room c.args.name_parts.now) (room c.args.mask_parts.now) c.args.names.now c.args.masks.now c.args.input.now _
-    c.in-Ok.count c.in-Err-read-masks.fault c.in-Ok.ensures.only c.in-Err-read-masks.ensures.only e)
-    c.refused-in-Err-read-masks.ensures
+    c.in-Ok.count c.in-Err-read_masks.fault c.in-Ok.ensures.only c.in-Err-read_masks.ensures.only e)
+    c.refused-in-Err-read_masks.ensures
 
 pub returns : goal.returns
 returns c =
     IfOk-weaker c.side_by_side.result _ _
     (λ v e. prints_answered (room c.args.name_parts.now) (room c.args.mask_parts.now) c.args.names.now c.args.masks.now c.args.input.now _
-    c.in-Ok.count c.in-Ok-read-masks.count c.args.name_parts.now c.read-names.new.parts c.args.mask_parts.now c.read-masks.new.parts
-    c.in-Ok.ensures.only c.in-Ok-read-masks.ensures.only c.in-Ok.ensures.memory c.in-Ok-read-masks.ensures.memory e)
+    c.in-Ok.count c.in-Ok-read_masks.count c.args.name_parts.now c.read_names.new.parts c.args.mask_parts.now c.read_masks.new.parts
+    c.in-Ok.ensures.only c.in-Ok-read_masks.ensures.only c.in-Ok.ensures.memory c.in-Ok-read_masks.ensures.memory e)
     c.side_by_side.ensures

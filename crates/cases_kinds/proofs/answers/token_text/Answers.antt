@@ -5,5 +5,5 @@ use Rattle.cases_kinds.proofs.answers.token_text.Goals as goal
 pub returns : goal.returns
 returns g c =
     let wrote = c.in-Some.ensures in
-    front (string_bytes c.in-ok-text.text) c.in-Ok.token.now (g.K.Number.kind.written c.args.x) _ c.write.new.out c.in-Some.length
-    c.in-ok-text.ensures.ok c.in-Ok.ensures.cases.0 wrote.0 wrote.2
+    front (string_bytes c.in_ok-text.text) c.in-Ok.token.now (g.K.Number.kind.written c.args.x) _ c.write.new.out c.in-Some.length
+    c.in_ok-text.ensures.ok c.in-Ok.ensures.cases.0 wrote.0 wrote.2

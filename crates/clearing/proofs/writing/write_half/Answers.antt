@@ -1,8 +1,9 @@
 -- The bodies so far are pasted in.
 use Rattle.std.proofs.Common.{ℕ, map, ap, ◌∙◌, arith, rules}
+use Rattle.std.proofs.lemmas.List.Edits.{paste_none}
 use Rattle.rules.specs.Clear.{look_up}
 use Rattle.clearing.specs.Writing.{half_row}
-use Rattle.clearing.proofs.Writes.{paste_none, half_more}
+use Rattle.clearing.proofs.Writes.{half_more}
 use Rattle.clearing.proofs.writing.write_half.Goals as goal
 
 pub loop-k-init : goal.loop-k-init

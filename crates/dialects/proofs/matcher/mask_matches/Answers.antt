@@ -7,7 +7,7 @@ use Rattle.dialects.proofs.matcher.mask_matches.Goals as goal
 
 pub returns : goal.returns
 returns c =
-    c.only-stars.ensures
+    c.only_stars.ensures
     ∙ ap (λ rest. mask_holds rest []) (take_rest c.args.mask.now c.loop-at.at.mask)
     ∙ sym (at_end c.args.mask.now c.args.text.now c.loop-at.at c.loop-at.invariant.0 (omega arith))
     ∙ c.loop-at.invariant.1

@@ -1,5 +1,5 @@
 -- At the end of the string a star stands for nothing, and any other byte is one too many.
-use Rattle.std.proofs.Common.{[], sym, ap, ◌∙◌, arith}
+use Rattle.std.proofs.Common.{[], sym, ◌∙◌, arith}
 use Rattle.std.proofs.lemmas.List.{at_drop_all}
 use Rattle.dialects.specs.Masks.{mask_holds}
 use Rattle.dialects.proofs.Walks.{at_star, at_byte}

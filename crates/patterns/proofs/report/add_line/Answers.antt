@@ -8,5 +8,5 @@ pub returns : goal.returns
 returns c =
     IfOk-weaker c.append-3.result _ _
     (λ _ e. line_parts (vec_items c.args.out.now) _ _ _ _ c.args.text.now c.args.numbers.now
-    c.in-ok-append.ensures c.in-ok-append-2.ensures c.in-ok-add-numbers.ensures e)
+    c.in_ok-append.ensures c.in_ok-append-2.ensures c.in_ok-add_numbers.ensures e)
     c.append-3.ensures

@@ -3,16 +3,16 @@ use Rattle.std.proofs.Common.{◌≡◌, false, Some, sym, ◌∙◌, subst, ari
 use Rattle.dialects.specs.Cursors.{from, Steps}
 use Rattle.dialects.proofs.Walks.{star_steps, byte_steps, try_steps, ended, differs}
 use Rattle.dialects.proofs.matcher.Cursor.step.Goals as goal
-use Rattle.dialects.proofs.matcher.Cursor.step.Goals.{then-m-mask+else-mask-m-eq42+else-stands-for, else-m-mask}
+use Rattle.dialects.proofs.matcher.Cursor.step.Goals.{then-m-mask+else-mask-m-eq42+else-stands_for, else-m-mask}
 
 pub returns-then-mask-m-eq42 : goal.returns-then-mask-m-eq42
 returns-then-mask-m-eq42 c =
     subst (λ next. Steps c.args.mask.now c.args.text.now c.args.self (Some next)) (sym c.trying.ensures)
     (star_steps c.args.mask.now c.args.text.now c.args.self c.requires.0 (omega arith) c.requires.1 c.if-mask-m-eq42.true)
 
-pub returns-then-stands-for : goal.returns-then-stands-for
-returns-then-stands-for c =
-    byte_steps c.args.mask.now c.args.text.now c.args.self c.requires.0 (omega arith) c.requires.1 c.if-mask-m-eq42.false (sym c.stands-for.ensures ∙ c.if-stands-for.true)
+pub returns-then-stands_for : goal.returns-then-stands_for
+returns-then-stands_for c =
+    byte_steps c.args.mask.now c.args.text.now c.args.self c.requires.0 (omega arith) c.requires.1 c.if-mask-m-eq42.false (sym c.stands_for.ensures ∙ c.if-stands_for.true)
 
 pub returns : goal.returns
 returns c =
@@ -21,7 +21,7 @@ returns c =
     let at = c.args.self in
     let stuck : from mask text at.mask at.text ≡ false =
     elim c.if-m-mask.branch [
-      | then-m-mask+else-mask-m-eq42+else-stands-for w ↦ differs mask text at.mask at.text w.if-m-mask.true c.requires.1 w.if-mask-m-eq42.false (sym w.stands-for.ensures ∙ w.if-stands-for.false)
+      | then-m-mask+else-mask-m-eq42+else-stands_for w ↦ differs mask text at.mask at.text w.if-m-mask.true c.requires.1 w.if-mask-m-eq42.false (sym w.stands_for.ensures ∙ w.if-stands_for.false)
       | else-m-mask w ↦ ended mask text at.mask at.text w.if-m-mask.false c.requires.1
     ] in
     subst (Steps mask text at) (sym c.next_try.ensures) (try_steps mask text at.mask at.text at.retry c.requires.0 c.requires.1 stuck)

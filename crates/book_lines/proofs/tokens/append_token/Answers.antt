@@ -2,7 +2,7 @@
 use Rattle.std.proofs.Common.{◌≡◌, ℕ, List, ◌++◌, length, vec_items, ap, ◌∙◌, rules}
 use Rattle.std.proofs.lemmas.Result.{IfOk-weaker}
 use Rattle.book_lines.proofs.Appends.{front}
-use Rattle.book_lines.proofs.numbers.append_token.Goals as goal
+use Rattle.book_lines.proofs.tokens.append_token.Goals as goal
 
 pub returns : goal.returns
 returns g c =

@@ -3,7 +3,7 @@ use Rattle.std.proofs.Common.{vec_items, ap, ◌∙◌}
 use Rattle.std.proofs.lemmas.Result.{IfOk-weaker}
 use Rattle.rules.specs.Book.{number_at}
 use Rattle.book_lines.proofs.Appends.{two_parts}
-use Rattle.book_lines.proofs.numbers.append_number.Goals as goal
+use Rattle.book_lines.proofs.tokens.append_number.Goals as goal
 
 pub returns : goal.returns
 returns g c =
