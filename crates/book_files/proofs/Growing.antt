@@ -1,5 +1,5 @@
 -- What has been read when some fields of a file are filled in, and how one more field adds to it.
-use Rattle.std.proofs.Common.{◌≡◌, ℕ, ◌+◌, ◌-◌, ◌*◌, ◌/◌, ◌%◌, ◌<◌, ◌≤◌, min, Bool, true, false, not, ◌||◌, ltb, leb, List, [], ◌∷◌, ◌++◌, map, length, get_or, take, drop, set, Ok, Err, Result, sym, refl, ap, ◌∙◌, subst, inr, append_assoc, arith, length-append, length-drop}
+use Rattle.std.proofs.Common.{◌≡◌, ℕ, ◌+◌, ◌<◌, ◌≤◌, min, Bool, true, false, not, ◌||◌, ltb, leb, List, [], ◌∷◌, ◌++◌, map, length, get_or, take, drop, set, Ok, Err, sym, refl, ap, ◌∙◌, subst, inr, append_assoc, arith, length-append, length-drop}
 use Rattle.std.proofs.lemmas.List.{append-nil, take_at, drop_at, drop-drop, drop_all, length_push, length-map, map_push, get_or-drop}
 use Rattle.std.proofs.lemmas.Bool.{leb-false, ltb-false, not-true, or_parts}
 use Rattle.std.specs.Result.{result_and}
@@ -15,10 +15,9 @@ use Rattle.books.specs.declared.fault.BookFault.{BookFault}
 use Rattle.books.proofs.Keeping.{both_pass, asked, row_passes}
 use Rattle.book_fields.specs.Fields.{field_test, is_misplaced, TakesField, Cuts}
 use Rattle.book_fields.specs.Items.{number_from, row_from, definition_from}
-use Rattle.book_files.specs.declared.reading.BookCounts.{BookCounts}
-use Rattle.book_files.specs.Drafts.{Numeral, Draft, drafted, Memory, memory, Room, room_of, fields, number_fields, row_fields, definition_fields, file, numbers, body_bytes, counts_of}
-use Rattle.book_files.specs.Files.{Each, last_tag, limits, NumberFits, RowFits, BodyFits, Fits, next_test, body_test, Stops, ReadsTo, Filled}
-use Rattle.book_files.specs.Filling.{Adds, AllRead, Fills}
+use Rattle.book_files.specs.Drafts.{Numeral, Draft, drafted, Memory, memory, room_of, number_fields, row_fields, definition_fields, file, numbers, body_bytes}
+use Rattle.book_files.specs.Files.{last_tag, limits, NumberFits, RowFits, BodyFits, Fits, next_test, body_test, ReadsTo, Filled}
+use Rattle.book_files.specs.Filling.{Adds, AllRead}
 use Rattle.book_files.proofs.Runs.{each_more, each_few, fields_push}
 use Rattle.book_files.proofs.Slots.{put_next, filled_long}
 use Rattle.book_files.proofs.Items.{number_read, row_read, definition_read, named_bytes, part_small}

@@ -80,6 +80,6 @@ length_take_most n xs i past = omega (arith, length-take n xs)
 pub part_small : (bytes : List ℕ) (n k : ℕ) → ((i : ℕ) → get_or bytes i 0 < 256) → (i : ℕ) → get_or (take n (drop k bytes)) i 0 < 256
 part_small bytes n k small i =
     ⊎_elim
-    (λ (in-part : i < n). subst (λ x. x < 256) (sym (get_or-take n (drop k bytes) i 0 in-part ∙ get_or-drop k bytes i 0)) (small (k + i)))
+    (λ (in_part : i < n). subst (λ x. x < 256) (sym (get_or-take n (drop k bytes) i 0 in_part ∙ get_or-drop k bytes i 0)) (small (k + i)))
     (λ (past : n ≤ i). subst (λ x. x < 256) (sym (get_or_past (take n (drop k bytes)) i 0 (length_take_most n (drop k bytes) i past))) (omega arith))
     (cases_lt i n)

@@ -1,24 +1,22 @@
 -- The field of an item that fits passes the test of the next field.
-use Rattle.std.proofs.Common.{◌≡◌, ℕ, ◌+◌, ◌*◌, ◌/◌, ◌%◌, ◌<◌, ◌≤◌, Bool, true, false, cond, not, ◌&&◌, ◌||◌, eqb, ltb, leb, List, [], ◌∷◌, ◌++◌, length, get_or, take, drop, Some, Ok, Err, Result, sym, refl, ap, ◌∙◌, subst, inl, inr, arith, length-append}
+use Rattle.std.proofs.Common.{◌≡◌, ℕ, ◌+◌, ◌<◌, false, List, [], ◌∷◌, ◌++◌, length, take, drop, Ok, Err, Result, sym, refl, ap, ◌∙◌, inl, inr, arith, length-append}
 use native.Mathlib.Nat.{div-add-mod}
 use Rattle.std.proofs.lemmas.List.{take_at}
-use Rattle.std.proofs.lemmas.Bool.{le-leb, lt-ltb, lt-leb, eq-eqb}
-use Rattle.std.specs.Result.{result_and}
-use Rattle.std.specs.List.{AllByRecursion}
-use Rattle.fields.specs.Fields.{field_bytes, tag_of, stated_length}
+use Rattle.std.proofs.lemmas.Bool.{le-leb, lt-ltb, lt-leb}
+use Rattle.fields.specs.Fields.{field_bytes, stated_length}
 use Rattle.numbers.specs.Kinds.{Kind}
-use Rattle.rules.specs.Book.{Limits, Allowed, operands}
+use Rattle.rules.specs.Book.{Limits, Allowed}
 use Rattle.rules.specs.declared.row.Row.{Row}
 use Rattle.rules.specs.declared.row.Row.TheVariants.{True, False, OfType, BooleanIs, Pattern, NotPattern, Length, Between, StrictlyBetween, Multiple, NotMultiple, EveryMember, SomeMember, Members, EveryElement, SomeElement, Count, And, Or, Not, Variable}
-use Rattle.rows.specs.Rows.{row_bytes, row_of, WellEnded}
+use Rattle.rows.specs.Rows.{row_bytes, WellEnded}
 use Rattle.rows.proofs.Back.{bytes_back}
-use Rattle.books.specs.Tests.{Tested, passes, ask}
+use Rattle.books.specs.Tests.{passes}
 use Rattle.books.specs.declared.fault.BookFault.{BookFault}
 use Rattle.books.proofs.Keeping.{passes_row}
 use Rattle.book_fields.specs.Fields.{field_test, is_misplaced, is_wrong}
 use Rattle.book_fields.specs.Items.{named}
-use Rattle.book_files.specs.Drafts.{Numeral, Draft, drafted, Room, file, numbers, body_bytes}
-use Rattle.book_files.specs.Files.{last_tag, limits, NumberFits, RowFits, BodyFits, body_test, next_test, Ends, Stops}
+use Rattle.book_files.specs.Drafts.{Numeral, Draft, drafted, Room, file, body_bytes}
+use Rattle.book_files.specs.Files.{last_tag, limits, NumberFits, RowFits, BodyFits, next_test, Stops}
 
 -- what stands in a field, as it is read again
 stated : (tag : ℕ) (body more : List ℕ) → stated_length (field_bytes tag body ++ more) ≡ length body

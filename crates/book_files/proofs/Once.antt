@@ -1,21 +1,20 @@
 -- A book's file can be taken apart in one way only, so it comes to one thing.
-use Rattle.std.proofs.Common.{◌≡◌, ℕ, ◌+◌, ◌/◌, ◌%◌, ◌<◌, ◌≤◌, List, [], ◌∷◌, ◌++◌, map, length, get_or, Some, Ok, Err, Option, Result, sym, refl, ap, ◌∙◌, subst, inl, inr, ⊎_elim, append_assoc, arith}
-use Rattle.std.proofs.lemmas.Bool.{cases_lt, cases_order}
+use Rattle.std.proofs.Common.{◌≡◌, ℕ, ◌/◌, ◌%◌, ◌<◌, ◌≤◌, List, [], ◌∷◌, ◌++◌, map, length, get_or, Some, Ok, Err, Option, Result, sym, refl, ap, ◌∙◌, subst, inl, inr, ⊎_elim, append_assoc, arith}
+use Rattle.std.proofs.lemmas.Bool.{cases_lt}
 use Rattle.fields.specs.Fields.{field_bytes, tag_of}
 use Rattle.numbers.specs.Kinds.{Kind}
 use Rattle.kinds.specs.Causes.{outcome}
 use Rattle.kinds.specs.declared.number.Cause.{Cause}
-use Rattle.rules.specs.Book.{Book, Limits, limits_of}
+use Rattle.rules.specs.Book.{Limits, limits_of}
 use Rattle.rules.specs.declared.row.Row.{Row}
 use Rattle.rows.specs.Rows.{row_bytes, row_of}
 use Rattle.rows.proofs.Back.{bytes_back}
-use Rattle.books.specs.Guard.{Lowest}
 use Rattle.books.specs.Tests.{Tested, passes}
 use Rattle.books.specs.declared.fault.BookFault.{BookFault}
-use Rattle.books.specs.declared.fault.BookFault.TheVariants.{FileTooLong, Unguarded}
+use Rattle.books.specs.declared.fault.BookFault.TheVariants.{Unguarded}
 use Rattle.books.proofs.Keeping.{lowest_one}
-use Rattle.book_files.specs.Drafts.{Numeral, Draft, drafted, Room, fields, number_fields, row_fields, definition_fields, file, body_bytes, book}
-use Rattle.book_files.specs.Files.{Each, limits, NumberFits, RowFits, BodyFits, Fits, next_test, end_test, Ends, Stops, ReadsTo, ComesTo}
+use Rattle.book_files.specs.Drafts.{Numeral, Draft, drafted, Room, number_fields, row_fields, definition_fields, file, body_bytes, book}
+use Rattle.book_files.specs.Files.{Each, limits, NumberFits, RowFits, BodyFits, next_test, end_test, Ends, Stops, ReadsTo, ComesTo}
 use Rattle.book_files.proofs.Runs.{Stuck, run_once}
 use Rattle.book_files.proofs.Nexts.{allowed_ended, number_passes, row_passes, body_passes, goes_on}
 

@@ -1,24 +1,22 @@
 -- A file that is read to its end is that of a sealed book, and the other way round.
-use Rattle.std.proofs.Common.{◌≡◌, ℕ, ◌+◌, ◌-◌, ◌*◌, ◌<◌, ◌≤◌, min, Bool, true, false, not, eqb, List, [], ◌∷◌, ◌++◌, map, length, get_or, take, drop, replicate, is_err, Ok, Err, Result, sym, refl, ap, ◌∙◌, subst, inl, inr, ⊎_elim, arith, length-append}
+use Rattle.std.proofs.Common.{◌≡◌, ℕ, ◌+◌, ◌-◌, ◌*◌, ◌<◌, ◌≤◌, true, false, not, eqb, List, [], ◌∷◌, ◌++◌, length, take, replicate, is_err, Ok, Err, Result, sym, refl, ap, ◌∙◌, subst, inl, inr, ⊎_elim, arith, length-append}
 use Rattle.std.proofs.lemmas.List.{append-nil, take_at, get_or_default, length-map}
 use Rattle.std.proofs.lemmas.Bool.{cases_lt, eqb-false, ne_eqb, not-true, not_from_false}
 use Rattle.std.specs.Result.{result_and}
 use Rattle.std.specs.List.{AllByRecursion}
 use Rattle.numbers.specs.Kinds.{Kind}
 use Rattle.kinds.specs.Causes.{outcome}
-use Rattle.rules.specs.Book.{Book, Limits, limits_of, reach, row_at, body_at, variables, Guarded, Sealed}
-use Rattle.rules.specs.declared.row.Row.{Row}
+use Rattle.rules.specs.Book.{limits_of, reach, row_at, Guarded, Sealed}
 use Rattle.rules.specs.declared.row.Row.TheVariants.{False}
 use Rattle.rows.specs.Rows.{row_bytes}
-use Rattle.books.specs.Guard.{Lowest, book_of}
 use Rattle.books.specs.Sealing.{plain_test, ComesTo as ComesTested}
 use Rattle.books.specs.Tests.{Tested, passes, ask, variable_test, first_refused}
 use Rattle.books.specs.declared.fault.BookFault.{BookFault}
 use Rattle.books.specs.declared.fault.BookFault.TheVariants.{FileTooLong, NoDefinition}
 use Rattle.books.proofs.Keeping.{Kept, both_pass, pass_both, asked, asks, refused_passes, each, all, call_from, call_back, kept_back, kept_sealed}
 use Rattle.book_files.specs.declared.reading.BookCounts.{BookCounts}
-use Rattle.book_files.specs.Drafts.{Numeral, Draft, Memory, Room, room_of, number_fields, row_fields, definition_fields, file, row_place, numbers, book, body_bytes, counts_of}
-use Rattle.book_files.specs.Files.{Each, limits, NumberFits, RowFits, BodyFits, Fits, end_test, Ends, Stops, ReadsTo, ComesTo, IsFile, Filled, Erased, Leaves, Reads, Granted}
+use Rattle.book_files.specs.Drafts.{Numeral, Draft, Memory, room_of, number_fields, row_fields, definition_fields, file, row_place, numbers, book, body_bytes}
+use Rattle.book_files.specs.Files.{Each, limits, NumberFits, RowFits, BodyFits, Fits, end_test, Stops, ComesTo, IsFile, Erased, Reads, Granted}
 use Rattle.book_files.specs.Filling.{AllRead, end_of, TestsEnd, GrantedRead, ReadsWhole}
 use Rattle.book_files.proofs.Runs.{each_at, each_by, each_few, fields_length}
 use Rattle.book_files.proofs.Once.{only_outcome}
@@ -46,9 +44,9 @@ module _ {K : Type 0} (kind : Kind K) (patterns : ℕ) where
         let ends = both_pass (ask (not (eqb d 0)) _) _ pass in
         let some : d ≡ 0 → ⊥ = eqb-false d 0 (not-true (eqb d 0) (asked (not (eqb d 0)) _ ends.0)) in
         let row = λ (r : ℕ) (lt : r < length draft.rows). each_at (RowFits (room_of before) (limits kind patterns draft)) draft.rows fits.rows r False lt in
-        let n-few = each_few (NumberFits kind (room_of before)) _ (λ n x p. p.0) draft.numerals fits.numerals in
-        let r-few = each_few (RowFits (room_of before) (limits kind patterns draft)) _ (λ n x p. p.0) draft.rows fits.rows in
-        let b-few = each_few (BodyFits (room_of before) (length draft.rows)) _ (λ n x p. p.0) draft.bodies fits.bodies in
+        let n_few = each_few (NumberFits kind (room_of before)) _ (λ n x p. p.0) draft.numerals fits.numerals in
+        let r_few = each_few (RowFits (room_of before) (limits kind patterns draft)) _ (λ n x p. p.0) draft.rows fits.rows in
+        let b_few = each_few (BodyFits (room_of before) (length draft.rows)) _ (λ n x p. p.0) draft.bodies fits.bodies in
         record {
           few_rows = omega arith;
           few_numbers = omega (arith, length-map draft.numerals (λ z. z.value));
@@ -88,22 +86,22 @@ module _ {K : Type 0} (kind : Kind K) (patterns : ℕ) where
 
     -- a file comes to what it is the file of
     file_comes : (bytes : List ℕ) (draft : Draft K) → IsFile kind patterns (room_of before) bytes draft → ComesTo kind patterns (room_of before) bytes (Ok draft)
-    file_comes bytes draft file-is =
+    file_comes bytes draft file_is =
         let d = length draft.bodies in
-        let s = file-is.sealed in (
-          λ long. absurd (omega (arith, file-is.short)),
+        let s = file_is.sealed in (
+          λ long. absurd (omega (arith, file_is.short)),
           λ short. record {
             draft = draft;
             rest = [];
-            cut = file-is.written ∙ sym (append-nil (file draft));
+            cut = file_is.written ∙ sym (append-nil (file draft));
             fits = record {
-              numerals = each_from_all draft.numerals 0 (omega (arith, file-is.numbers_fit)) file-is.read;
+              numerals = each_from_all draft.numerals 0 (omega (arith, file_is.numbers_fit)) file_is.read;
               rows = each_by (RowFits (room_of before) (limits kind patterns draft)) draft.rows (λ r x lt.
                   subst (RowFits (room_of before) (limits kind patterns draft) r) (get_or_default draft.rows r False x lt)
-                  (omega (arith, file-is.rows_fit), s.allowed r lt, s.lower r lt));
+                  (omega (arith, file_is.rows_fit), s.allowed r lt, s.lower r lt));
               bodies = each_by (BodyFits (room_of before) (length draft.rows)) draft.bodies (λ v x lt.
                   subst (BodyFits (room_of before) (length draft.rows) v) (get_or_default draft.bodies v 0 x lt)
-                  (omega (arith, file-is.bodies_fit), s.bodies v lt));
+                  (omega (arith, file_is.bodies_fit), s.bodies v lt));
             };
             stop = (
               refl,
@@ -228,8 +226,8 @@ module _ {K : Type 0} (kind : Kind K) (patterns : ℕ) where
     granted_read bytes after counts a = (a.draft, comes_file bytes a.draft a.comes, a.counted)
 
     pub granted_not : (bytes : List ℕ) (e : BookFault) → ComesTo kind patterns (room_of before) bytes (Err e) → Granted kind patterns (room_of before) bytes (Err e)
-    granted_not bytes e comes = λ draft file-is.
-        let same : ◌≡◌ {A = Result (Draft K) BookFault} (Ok draft) (Err e) = only_outcome kind patterns (room_of before) bytes (Err e) (Ok draft) comes (file_comes bytes draft file-is) in
+    granted_not bytes e comes = λ draft file_is.
+        let same : ◌≡◌ {A = Result (Draft K) BookFault} (Ok draft) (Err e) = only_outcome kind patterns (room_of before) bytes (Err e) (Ok draft) comes (file_comes bytes draft file_is) in
         let z : ◌≡◌ {A = ℕ} 0 1 = cc in omega arith
 
     -- the memory that is erased is as long as it was

@@ -1,5 +1,5 @@
 -- What the steps of the reading call promise each other.
-use Rattle.std.specs.Prelude.{◌≡◌, ℕ, ◌+◌, ◌-◌, ◌*◌, ◌≤◌, not, ◌⊎◌, List, length, Ok, Err, Result, ◌==◌, slice_set}
+use Rattle.std.specs.Prelude.{◌≡◌, ℕ, ◌+◌, ◌-◌, ◌*◌, not, ◌⊎◌, List, length, Ok, Err, Result, ◌==◌, slice_set}
 use Rattle.std.specs.Result.{result_and}
 use Rattle.numbers.specs.Kinds.{Kind}
 use Rattle.rules.specs.declared.row.Row.{Row}

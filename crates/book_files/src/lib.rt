@@ -1,4 +1,6 @@
 // The files of rule books, read and sealed.
+#![tactic(auto)]
+
 mod ending;
 mod filling;
 pub mod reading;

@@ -148,7 +148,7 @@ module _ (book : Book) (start : ℕ) where
         room = rw length-set (omega (arith, fewer marks start inside new, blank.1));
         begun = here;
         within = λ i m. rw (only i m) (h, inl refl);
-        stacked = λ k lt. let zero-k : k ≡ 0 = omega arith in rw (zero-k, get_or-set_same stack 0 start 0 (omega (arith, blank.0, blank.1))) here;
+        stacked = λ k lt. let zero_k : k ≡ 0 = omega arith in rw (zero_k, get_or-set_same stack 0 start 0 (omega (arith, blank.0, blank.1))) here;
         closed = λ i m. inl (0, omega arith, get_or-set_same stack 0 start 0 (omega (arith, blank.0, blank.1)) ∙ sym (only i m));
       })
     where

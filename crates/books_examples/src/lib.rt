@@ -1,3 +1,5 @@
+#![tactic(auto)]
+
 // Worked examples of books and their files, from a railway.
 #[cfg(test)]
 mod files;

@@ -19,8 +19,8 @@ pub int_small : (int : List ℕ) → Digits int → length int ≤ 12 → number
 int_small int h l = digits_value_short numerals int 12 h l
 
 pub scaled : (ds : List ℕ) (n s : ℕ) → Digits ds → length ds ≤ 6 → n ≡ number ds → s ≡ 10 ^ (6 - length ds) → (n * s ≡ millionths_of ds) × (n * s < 10 ^ 6)
-scaled ds n s h l n-is s-is =
-    let is : n * s ≡ millionths_of ds = ap (λ k. k * s) n-is ∙ ap (λ k. number ds * k) s-is in
+scaled ds n s h l n_is s_is =
+    let is : n * s ≡ millionths_of ds = ap (λ k. k * s) n_is ∙ ap (λ k. number ds * k) s_is in
     (is, omega (arith, is, (six ds h l).less))
 
 module _ (token : List ℕ) (minus : Bool) (int ds : List ℕ) (taken : Some (plain minus int ds) ≡ taken_apart token) where

@@ -10,7 +10,7 @@ pub by_zero : (x q : ℕ) → q ≡ 0 → eqb x 0 ≡ eqb (x % q) 0
 by_zero x q e = ap (λ n. eqb n 0) (sym (mod-zero x) ∙ ap (λ n. x % n) (sym e))
 
 pub by_magnitudes : (x q : ℤ) (m n : ℕ) → m ≡ nat_abs x → n ≡ nat_abs q → eqb (m % n) 0 ≡ divides x q
-by_magnitudes x q m n is_m is-n = ap (λ k. eqb (k % n) 0) is_m ∙ ap (λ k. eqb (nat_abs x % k) 0) is-n
+by_magnitudes x q m n is_m is_n = ap (λ k. eqb (k % n) 0) is_m ∙ ap (λ k. eqb (nat_abs x % k) 0) is_n
 
 pub times_told : (x q : ℤ) (r : Bool) → r ≡ divides x q → Decides r (Multiple x q)
 times_told x q r e = Decides-at r (divides x q) e (divides_tells x q)

@@ -17,16 +17,16 @@ puts_byte old at b h = record { end = omega arith; memory = set_split old at b h
 pub puts_more : (old mid new xs ys : List ℕ) (at m e : ℕ) → m ≤ length old → Puts xs at old mid m → Puts ys m mid new e → Puts (xs ++ ys) at old new e
 puts_more old mid new xs ys at m e low first then =
     let front : length (take at old ++ xs) ≡ m = length-append (take at old) xs ∙ ap (λ n. n + length xs) (length-take-le at old (omega (arith, first.end))) ∙ sym first.end in
-    let mid-is : mid ≡ (take at old ++ xs) ++ drop m old = first.memory ∙ sym (append_assoc (take at old) xs (drop m old)) in
-    let take-is : take m mid ≡ take at old ++ xs = ap (take m) mid-is ∙ take_at (take at old ++ xs) (drop m old) m front in
-    let drop-is : drop m mid ≡ drop m old = ap (drop m) mid-is ∙ drop_at (take at old ++ xs) (drop m old) m front in
+    let mid_is : mid ≡ (take at old ++ xs) ++ drop m old = first.memory ∙ sym (append_assoc (take at old) xs (drop m old)) in
+    let take_is : take m mid ≡ take at old ++ xs = ap (take m) mid_is ∙ take_at (take at old ++ xs) (drop m old) m front in
+    let drop_is : drop m mid ≡ drop m old = ap (drop m) mid_is ∙ drop_at (take at old ++ xs) (drop m old) m front in
     let past : drop e mid ≡ drop e old =
-    ap (λ n. drop n mid) then.end ∙ sym (drop-drop (length ys) m mid) ∙ ap (drop (length ys)) drop-is ∙ drop-drop (length ys) m old
+    ap (λ n. drop n mid) then.end ∙ sym (drop-drop (length ys) m mid) ∙ ap (drop (length ys)) drop_is ∙ drop-drop (length ys) m old
     ∙ ap (λ n. drop n old) (sym then.end) in
     record {
       end = omega (arith, length-append xs ys, first.end, then.end);
       memory =
-          then.memory ∙ ap (λ l. l ++ (ys ++ drop e mid)) take-is ∙ ap (λ l. (take at old ++ xs) ++ (ys ++ l)) past
+          then.memory ∙ ap (λ l. l ++ (ys ++ drop e mid)) take_is ∙ ap (λ l. (take at old ++ xs) ++ (ys ++ l)) past
           ∙ regroup (take at old) xs ys (drop e old);
     }
   where

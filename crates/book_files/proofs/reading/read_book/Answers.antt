@@ -1,5 +1,5 @@
 -- What the file comes to is told and left.
-use Rattle.std.proofs.Common.{◌≡◌, sym, refl, ap, ◌∙◌, subst, arith, rules}
+use Rattle.std.proofs.Common.{sym, rules}
 use Rattle.book_files.specs.Drafts.{memory}
 use Rattle.book_files.proofs.Whole.{told_refused, told_read}
 use Rattle.book_files.proofs.reading.read_book.Goals as goal

@@ -30,6 +30,6 @@ returns g c =
     let sealed = c.in_default.ensures.seals in
     record {
       same = λ _. (refl, refl, refl, refl);
-      nothing = λ not-sealed. absurd (not-sealed sealed);
+      nothing = λ not_sealed. absurd (not_sealed sealed);
       sealed = view_sealed (counts limits.patterns limits.numbers) book (counts_pass limits book sealed) sealed.guarded;
     }
