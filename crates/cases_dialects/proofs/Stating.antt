@@ -1,5 +1,5 @@
 -- What states no outcome.
-use Rattle.std.proofs.Common.{◌≡◌, ℕ, Bool, true, false, List, ◌∷◌, drop, codes, Decides, ap, ◌∙◌}
+use Rattle.std.proofs.Common.{◌≡◌, ℕ, Bool, false, List, ◌∷◌, drop, codes, Decides}
 use Rattle.cases.specs.Outcomes.{Spells}
 use Rattle.cases.specs.declared.outcome.Refused.{Refused}
 use Rattle.cases_dialects.specs.Expected.{Expects}

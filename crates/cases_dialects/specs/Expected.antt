@@ -1,7 +1,6 @@
 -- What words state an outcome, what outcome a reading comes to, and how it is written.
 use Rattle.std.specs.Prelude.{◌≡◌, ℕ, List, [], ◌∷◌, ◌++◌, drop, Some, Ok, Err, codes, decimal, Result}
 use Rattle.cases.specs.Outcomes.{number_first, Spells}
-use Rattle.cases.specs.declared.outcome.Refused.{Refused}
 use Rattle.cases_dialects.specs.declared.outcome.Outcome.{Outcome}
 use Rattle.cases_dialects.specs.declared.outcome.Outcome.TheVariants.{Count, Refusal}
 use Rattle.dialects.specs.Faults.{refusal_of}

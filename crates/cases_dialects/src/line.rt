@@ -148,11 +148,11 @@ impl FileCase {
         heap: Global,
         sort: Sort,
         number: usize,
-        res: Result<usize, PatternFault>,
+        reading: Result<usize, PatternFault>,
     ) -> Result<Ran, AllocError>
-        ensures { IfOk result (λ x. Decides (not x.differs) (self.now.outcome ≡ came_of res)) }
+        ensures { IfOk result (λ x. Decides (not x.differs) (self.now.outcome ≡ came_of reading)) }
     {
-        let came = of_reading(res);
+        let came = of_reading(reading);
         Ok(Ran {
             sort,
             number,

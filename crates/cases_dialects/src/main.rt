@@ -1,4 +1,6 @@
 // Runs the test vectors of the dialects, which it reads from standard input, and prints what differs.
+#![tactic(auto)]
+
 mod bits;
 mod line;
 mod outcome;

@@ -32,10 +32,10 @@ pub(crate) fn expected(words: Parts<'_>) -> Option<Outcome>
 }
 
 // The outcome that came. No pattern's refusal has a cause.
-pub(crate) fn of_reading(res: Result<usize, PatternFault>) -> Outcome
-    ensures { result ≡ came_of res }
+pub(crate) fn of_reading(reading: Result<usize, PatternFault>) -> Outcome
+    ensures { result ≡ came_of reading }
 {
-    match res {
+    match reading {
         Ok(count) => Outcome::Count(count),
         Err(fault) => {
             let refusal = fault.refusal();

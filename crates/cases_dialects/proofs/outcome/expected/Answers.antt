@@ -1,7 +1,7 @@
 use Rattle.cases_dialects.proofs.Stating.{neither}
 use Rattle.cases_dialects.proofs.outcome.expected.Goals as goal
 
-pub returns-in-err-refused : goal.returns-in-err-refused
-returns-in-err-refused c =
-    rw c.from-residual.ensures
-    (neither _ _ c.next-is.result c.next-is.ensures.value c.next-is.ensures.after c.if-not-next-is.true c.in-err-refused.ensures)
+pub returns-in_err-refused : goal.returns-in_err-refused
+returns-in_err-refused c =
+    rw c.from_residual.ensures
+    (neither _ _ c.next_is.result c.next_is.ensures.value c.next_is.ensures.after c.if-not-next_is.true c.in_err-refused.ensures)
