@@ -25,7 +25,7 @@ DECLARED = re.compile(
     r"^\s*(?:abbrev pub |abbrev |unfoldable pub |unfoldable |pub data |pub record |data |record |pub ruleset |ruleset |pub )?"
     r"([^\s(){}\[\],.;:]+)(?:\s+[^:\n]*?)?\s+:\s(.*)$"
 )
-ALIAS = re.compile(r"(?<![^\s{,])([^\s{},.;]+) as ([a-z]+[A-Z]\w*)(?=[,}])")
+ALIAS = re.compile(r"(?<![^\s{,])([^\s{},.;]+) as ([a-z]+(?:[A-Z]\w*|-[\w-]+))(?=[,}])")
 
 
 def antt_files():
@@ -110,7 +110,7 @@ def main():
             here["All"] = "AllByRecursion"
         if path.endswith(".rt"):
             for m in ALIAS.finditer("\n".join(l for l in text.splitlines() if l.lstrip().startswith("ghost use "))):
-                here[m.group(2)] = snake(m.group(2))
+                here[m.group(2)] = snake(m.group(2)).replace("-", "_")
         before = {w for line in text.splitlines() for t, code in code_parts(line, comment) if code for w in words(t)}
         if say:
             for old in sorted(before & here.keys()):
