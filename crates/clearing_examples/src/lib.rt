@@ -1,10 +1,10 @@
 // Worked examples of clearing, from a railway.
 #![tactic(auto)]
 
-#[cfg(test)]
-mod books;
 mod into;
 #[cfg(test)]
 mod limits;
+#[cfg(test)]
+mod small_books;
 #[cfg(test)]
 mod views;
