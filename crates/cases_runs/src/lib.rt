@@ -1,4 +1,4 @@
-// What the programs that run test vectors share: the words of their lines, the run of all lines, and its report.
+// What a program that runs test vectors can stand on: the words of their lines, the run of all lines, and its report. None does yet.
 #![tactic(auto)]
 
 pub mod fault;
