@@ -1,6 +1,6 @@
+// Worked examples of books and their files, from a railway.
 #![tactic(auto)]
 
-// Worked examples of books and their files, from a railway.
 #[cfg(test)]
 mod files;
 #[cfg(test)]

@@ -1,6 +1,6 @@
+// Worked examples of pattern files and dialects, from a railway.
 #![tactic(auto)]
 
-// Worked examples of pattern files and dialects, from a railway.
 #[cfg(test)]
 mod files;
 #[cfg(test)]
