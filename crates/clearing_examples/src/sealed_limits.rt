@@ -17,14 +17,14 @@ fn refused(book: &Book<'_>, out: &mut [Row], definitions: &mut [u16]) -> Option<
     }
 }
 
-const TWO_ENDS: Row = Row::Members(Range {
+const ONE_TO_FOUR: Row = Row::Members(Range {
     lower: 1,
     upper: Some(4),
 });
 
 #[test]
-fn each_range_of_two_ends_takes_five_rows(rt: HostRuntime) {
-    let rows = [TWO_ENDS; 409];
+fn a_sealed_range_of_two_ends_takes_five_rows(rt: HostRuntime) {
+    let rows = [ONE_TO_FOUR; 409];
     let mut out = [Row::Not(9); 2048];
     let mut definitions = [7; 2];
     let more = Book::seal(&rows, &[0], &NO_NUMBERS, 0);
@@ -43,7 +43,7 @@ fn each_range_of_two_ends_takes_five_rows(rt: HostRuntime) {
 }
 
 #[test]
-fn each_definition_takes_two_places(rt: HostRuntime) {
+fn each_sealed_definition_takes_two_places(rt: HostRuntime) {
     let mut out = [Row::Not(9); 8];
     let mut definitions = [7; 130];
     let more = Book::seal(&[Row::True], &[0; 65], &NO_NUMBERS, 0);
@@ -62,7 +62,7 @@ fn each_definition_takes_two_places(rt: HostRuntime) {
 }
 
 #[test]
-fn too_many_rows_come_before_too_many_definitions(rt: HostRuntime) {
+fn too_many_sealed_rows_come_before_too_many_definitions(rt: HostRuntime) {
     let mut out = [Row::Not(9); 7];
     let mut definitions = [7; 1];
     let book = Book::seal(&[Row::True], &[0], &NO_NUMBERS, 0);
