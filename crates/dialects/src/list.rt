@@ -1,4 +1,4 @@
-// The patterns of a file, by number.
+// Patterns by number, as they stand in a file.
 ghost use Rattle.std.specs.Prelude.{◌≡◌};
 ghost use Rattle.dialects.specs.Dialects.{part_count, listed_holds, Finds};
 
