@@ -20,6 +20,8 @@ numbered_take line i xs d inside =
 -- the lines up to number i stand there, and its own line is added
 pub line_more : {K A : Type 0} (line : ℕ → A → List ℕ) (was now is : Page K) (i : ℕ) (xs : List A) (d : A) → i < length xs →
     Adds was now (numbered line 0 (take i xs)) → Adds now is (line i (get_or xs i d)) → Adds was is (numbered line 0 (take (i + 1) xs))
-line_more line was now is i xs d inside stands adds =
-    (adds.0 ∙ ap (λ l. l ++ line i (get_or xs i d)) stands.0 ∙ append_assoc was.text.items (numbered line 0 (take i xs)) (line i (get_or xs i d))
-    ∙ ap (λ l. was.text.items ++ l) (sym (numbered_take line i xs d inside)), adds.1 ∙ stands.1)
+line_more line was now is i xs d inside stands adds = (
+  adds.0 ∙ ap (λ l. l ++ line i (get_or xs i d)) stands.0 ∙ append_assoc was.text.items (numbered line 0 (take i xs)) (line i (get_or xs i d))
+      ∙ ap (λ l. was.text.items ++ l) (sym (numbered_take line i xs d inside)),
+  adds.1 ∙ stands.1,
+)

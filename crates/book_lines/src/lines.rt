@@ -2,10 +2,11 @@
 ghost use Rattle.std.specs.Prelude.{◌≡◌, ◌++◌, IfOk, OnOk, codes, length};
 ghost use Rattle.book_lines.specs.Lines.{bounds_text, operand_text, row_line, definition_line, definition_lines, numbered, book_text};
 ghost use Rattle.book_lines.specs.Pages.{Adds};
-ghost use Rattle.books.specs.Guard.{book_of};
+ghost use Rattle.books.specs.Drafts.{drafted};
 
 use crate::page::Page;
 use crate::words::{Ends, operator_word, type_word};
+use books::draft::Draft;
 use kinds::number::Number;
 use rules::row::{Bounds, Row};
 use std::alloc::{AllocError, Global};
@@ -93,12 +94,12 @@ impl<K: Number> Page<'_, K> {
 // The lines of a cleared book with these numbers: one a row, one a definition, and the counts.
 pub fn cleared_lines<K: Number>(
     heap: Global,
-    rows: &[Row],
-    definitions: &[u16],
+    draft: Draft<'_>,
     numbers: &[K],
 ) -> Result<Vec<u8>, AllocError>
-    ensures { IfOk result (λ v. v.items ≡ book_text K.Number.kind numbers.now (book_of rows.now definitions.now)) }
+    ensures { IfOk result (λ v. v.items ≡ book_text K.Number.kind numbers.now (drafted draft.entry)) }
 {
+    let Draft { rows, definitions } = draft;
     let mut page = Page {
         text: Vec::new(heap),
         numbers,
