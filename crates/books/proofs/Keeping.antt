@@ -25,6 +25,10 @@ both_pass (Err e) b h = refused_passes e h
 pub pass_both : (a b : Tested) → a ≡ passes → b ≡ passes → result_and a b ≡ passes
 pass_both a b p q = rw p q
 
+-- after a test that passes the next one decides
+pub passes_then : (a b r : Tested) → passes ≡ a → r ≡ b → r ≡ result_and a b
+passes_then a b r p q = rw (← p) q
+
 pub asked : (b : Bool) (e : BookFault) → ask b e ≡ passes → b ≡ true
 asked true e h = refl
 asked false e h = refused_passes e h

@@ -1,5 +1,5 @@
 -- What each row and each definition is tested for, and by which fault it is refused.
-use Rattle.std.specs.Prelude.{ℕ, ◌+◌, Bool, true, cond, ◌&&◌, List, [], ◌∷◌, Some, None, Ok, Err, Option, Result, nat_le, nat_lt}
+use Rattle.std.specs.Prelude.{◌≡◌, ℕ, ◌+◌, ◌<◌, Bool, true, cond, ◌&&◌, List, [], ◌∷◌, length, Some, None, Ok, Err, Option, Result, nat_le, nat_lt}
 use Rattle.std.specs.Result.{result_and}
 use Rattle.rules.specs.Book.{Limits, Reach, nothing, inner, both, negated, body, reach}
 use Rattle.rules.specs.declared.row.Range.{Range}
@@ -108,3 +108,11 @@ variable_test definitions place row = call_test definitions place (reach row)
 abbrev pub first_refused : {A : Type 0} → (ℕ → A → Tested) → ℕ → List A → Tested
 first_refused test i [] = passes
 first_refused test i (x ∷ xs) = result_and (test i x) (first_refused test (i + 1) xs)
+
+-- what calls give at numbered items is what this test says
+abbrev pub Agrees : {A : Type 0} → (ℕ → A → Tested → Type 0) → List A → (ℕ → A → Tested) → Type 0
+Agrees {A} gives xs test = (i : ℕ) (x : A) (t : Tested) → i < length xs → gives i x t → t ≡ test i x
+
+-- calls at one item after another, up to the first that is refused
+abbrev pub StopsAtFirst : {A : Type 0} → (ℕ → A → Tested → Type 0) → List A → Tested → Type 0
+StopsAtFirst {A} gives xs r = (test : ℕ → A → Tested) → Agrees gives xs test → r ≡ first_refused test 0 xs
