@@ -5,6 +5,7 @@ ghost use Rattle.rules.specs.Clear.{look_up};
 ghost use Rattle.clearing.specs.Writing.{half_row, bodies, written_over, Writable, WrittenRows};
 
 use crate::adding::{adds, place_of};
+use crate::complements::FreeRow;
 use rules::place::Place;
 use rules::row::{Row, ValueType};
 
@@ -44,9 +45,13 @@ pub(crate) fn write_rows(rows: &[Row], d: u16, out: &mut [Row], places: &mut [Pl
     put(out, 0, &FIXED);
     let mut count: usize = 8;
     for (r, row) in rows.iter().enumerate() {
-        let new = adds(&places[..r], d, count as u16, *row);
-        put(out, count, &new.rows[..new.count]);
-        count += new.count;
+        let free = FreeRow {
+            number: count as u16,
+        };
+        let new = adds(&places[..r], d, free, *row);
+        let added = new.rows.as_slice();
+        put(out, count, added);
+        count += added.len();
         places[r] = new.stands;
     }
 }
