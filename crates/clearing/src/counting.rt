@@ -22,10 +22,7 @@ fn sides_count(low: bool, high: bool) -> usize
 fn range_count(range: Range) -> Option<usize>
     ensures { RangeCount range result }
 {
-    if range.upper == Some(u16::MAX) {
-        return None;
-    }
-    Some(sides_count(range.lower > 0, range.upper.is_some()))
+    (range.upper != Some(u16::MAX)).then(|| sides_count(range.lower > 0, range.upper.is_some()))
 }
 
 // The count of rows that a row adds, or nothing where its complement can't be written down. There are d definitions.
@@ -50,8 +47,7 @@ fn added_count(row: Row, d: usize) -> Option<usize>
             bounds.upper.is_some(),
         )),
         Row::And(_, _) | Row::Or(_, _) => Some(2),
-        Row::Variable(v) if usize::from(v) < d => Some(2),
-        Row::Variable(_) => None,
+        Row::Variable(v) => (usize::from(v) < d).then_some(2),
     }
 }
 
