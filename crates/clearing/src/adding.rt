@@ -12,11 +12,7 @@ use rules::row::{Row, ValueType};
 pub(crate) fn place_of(places: &[Place], r: u16) -> Place
     ensures { result ≡ look_up places.now r }
 {
-    let none = Place {
-        positive: 0,
-        negative: 0,
-    };
-    places.get(usize::from(r)).copied().unwrap_or(none)
+    places.get(usize::from(r)).copied().unwrap_or_default()
 }
 
 // What a row adds from the free row s on, by the places of the rows before it. There are d definitions.

@@ -4,7 +4,6 @@ ghost use Rattle.rules.specs.declared.row.Range.{Range as RangeOf};
 ghost use Rattle.rules.specs.declared.row.Bounds.{Bounds as BoundsOf};
 ghost use Rattle.rules.specs.declared.row.Row.{Row as RowOf};
 ghost use Rattle.rules.specs.declared.row.Row.TheVariants.{OfType};
-ghost use Rattle.rules.specs.Value.{type_index};
 ghost use Rattle.rules.specs.Clear.{added as added_rows, turn as turned_rows, outside as outside_rows, below as below_lower, above as above_upper, under as under_lower, over as over_upper, around_range, around_bounds, adds as adds_rows, other_type};
 ghost use Rattle.clearing.specs.Adding.{EndsBelow, Gives, nowhere, listed};
 
@@ -12,26 +11,12 @@ use crate::added::{Added, NewRows};
 use rules::place::Place;
 use rules::row::{Bounds, Range, Row, ValueType};
 
-// The row that accepts just the values of this type.
-fn type_row(t: ValueType) -> u16
-    ensures { result ≡ type_index t }
-{
-    match t {
-        ValueType::Null => 0,
-        ValueType::Boolean => 1,
-        ValueType::Number => 2,
-        ValueType::Text => 3,
-        ValueType::List => 4,
-        ValueType::Object => 5,
-    }
-}
-
-// The k-th type in ascending order, t left out.
+// The row of the k-th type, t left out. The rows of the types stand first, in their order.
 fn other_type(t: ValueType, k: u16) -> u16
     requires { k < 5 }
     ensures { result ≡ other_type t k }
 {
-    if k < type_row(t) { k } else { k + 1 }
+    if k < u16::from(t) { k } else { k + 1 }
 }
 
 // The counts below a lower end.
@@ -102,7 +87,7 @@ impl FreeRow {
     {
         let s = self.number;
         Added {
-            rows: NewRows::Three([row, back, Row::And(type_row(t), s + 1)]),
+            rows: NewRows::Three([row, back, Row::And(u16::from(t), s + 1)]),
             stands: Place {
                 positive: s,
                 negative: s + 2,
@@ -160,7 +145,7 @@ impl FreeRow {
                     low,
                     high,
                     Row::Or(s + 1, s + 2),
-                    Row::And(type_row(t), s + 3),
+                    Row::And(u16::from(t), s + 3),
                 ]),
                 stands: Place {
                     positive: s,
@@ -215,7 +200,7 @@ impl FreeRow {
                 Row::Or(s + 2, other_type(t, 4)),
             ]),
             stands: Place {
-                positive: type_row(t),
+                positive: u16::from(t),
                 negative: s + 3,
             },
         }

@@ -18,7 +18,7 @@ fn sides_count(low: bool, high: bool) -> usize
     }
 }
 
-// One more than the upper end must still be an end.
+// The count of rows that a range adds, whose complement begins at one more than its upper end.
 fn range_count(range: Range) -> Option<usize>
     ensures { RangeCount range result }
 {

@@ -24,12 +24,6 @@ use rules::row::Row;
 // A book has at most so many definitions.
 const MOST_DEFINITIONS: usize = 128;
 
-// What the table of places holds before a row is read.
-const NOWHERE: Place = Place {
-    positive: 0,
-    negative: 0,
-};
-
 // Whether so many fit into the memory, and within the most that there may be.
 fn fits(count: usize, memory: usize, most: usize) -> bool
     ensures { result ≡ nat_le count (min memory most) }
@@ -58,7 +52,7 @@ pub fn clear(
     if !fits(d, out_definitions.len() / 2, MOST_DEFINITIONS / 2) {
         return Err(ClearFault::TooManyDefinitions);
     }
-    let mut places = [NOWHERE; MOST_ROWS];
+    let mut places = [Place::default(); MOST_ROWS];
     write_rows(rows, d as u16, out_rows, &mut places);
     write_bodies(definitions, &places[..rows.len()], out_definitions);
     Ok(count)

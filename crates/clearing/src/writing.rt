@@ -36,7 +36,7 @@ pub(crate) fn write_rows(rows: &[Row], d: u16, out: &mut [Row], places: &mut [Pl
     ensures { WrittenRows d rows.now out.old out.new places.new }
 {
     put(out, 0, &FIXED);
-    let mut count: usize = 8;
+    let mut count = FIXED.len();
     for (r, row) in rows.iter().enumerate() {
         let free = FreeRow {
             number: count as u16,
