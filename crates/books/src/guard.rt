@@ -3,8 +3,10 @@ ghost use Rattle.std.specs.Prelude.{◌≡◌, ◌+◌, ◌<◌, ◌≤◌, true
 ghost use Rattle.rules.specs.Book.{needs, variables};
 ghost use Rattle.std.specs.List.{AllByRecursion};
 ghost use Rattle.books.specs.Guard.{book_of, if_there, listed, calls as calls_by, Joined, Marked, FirstCall, FirstCycle, Finds};
+ghost use Rattle.books.specs.Drafts.{drafted};
 ghost use Rattle.books.specs.Spread.{work, visit as visited, visit_all, Room, EveryRoom, Blank};
 
+use crate::draft::Draft;
 use crate::limits::MOST_ROWS;
 use rules::row::Row;
 
@@ -131,15 +133,15 @@ fn lowest_variable(rows: &[Row], definitions: &[u16], definition: usize) -> usiz
 
 // The lowest row that needs itself, if one does. Such a row is a variable: any other needs only rows below it,
 // and the next one on its way back to itself would need itself too.
-pub(crate) fn lowest_cycle(rows: &[Row], definitions: &[u16]) -> Option<usize>
-    requires { Joined (book_of rows.now definitions.now) }
-    ensures { Finds (book_of rows.now definitions.now) result }
+pub(crate) fn lowest_cycle(draft: Draft<'_>) -> Option<usize>
+    requires { Joined (drafted draft) }
+    ensures { Finds (drafted draft.entry) result }
 {
-    let mut lowest = rows.len();
-    for d in 0..definitions.len() {
-        lowest = lowest.min(lowest_variable(rows, definitions, d));
+    let mut lowest = draft.rows.len();
+    for d in 0..draft.definitions.len() {
+        lowest = lowest.min(lowest_variable(draft.rows, draft.definitions, d));
     }
-    if lowest < rows.len() {
+    if lowest < draft.rows.len() {
         Some(lowest)
     } else {
         None

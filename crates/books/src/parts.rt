@@ -1,10 +1,11 @@
 // Tests the parts of a book one by one: its rows, its definitions and its variables.
-ghost use Rattle.std.specs.Prelude.{◌≡◌, ◌<◌};
-ghost use Rattle.rules.specs.Book.{number_at, limits_of, operands, variables};
+ghost use Rattle.std.specs.Prelude.{◌≡◌, length};
+ghost use Rattle.books.specs.Drafts.{limits_in};
+ghost use Rattle.rules.specs.Book.{number_at, operands, variables};
 ghost use Rattle.books.specs.Tests.{is_ended, is_there, row_fits, row_above, row_test, variable_test, definition_test, counted_row, first_refused};
 
 use crate::fault::BookFault;
-use crate::limits::{MOST_DEFINITIONS, MOST_ROWS};
+use crate::limits::{Limits, MOST_DEFINITIONS, MOST_ROWS};
 use kinds::number::Number;
 use rules::row::{Range, Row};
 
@@ -29,19 +30,20 @@ fn is_there(index: Option<u16>, numbers: usize) -> bool
 }
 
 // Whether a row may have these operands, as row number `at`.
-fn is_allowed(row: Row, at: usize, patterns: usize, numbers: usize) -> bool
-    ensures { result ≡ row_fits patterns numbers at row }
+fn is_allowed<K>(row: Row, at: usize, limits: Limits<'_, K>) -> bool
+    ensures { result ≡ row_fits limits.entry.patterns (length limits.entry.numbers.now) at row }
 {
     match row {
         Row::True | Row::False | Row::OfType(_) | Row::BooleanIs(_) | Row::Variable(_) => true,
-        Row::Pattern(p) | Row::NotPattern(p) => usize::from(p) < patterns,
+        Row::Pattern(p) | Row::NotPattern(p) => usize::from(p) < limits.patterns,
         Row::Length(range) | Row::Members(range) => is_ended(range),
         Row::Between(bounds) | Row::StrictlyBetween(bounds) => {
-            is_there(bounds.lower, numbers) && is_there(bounds.upper, numbers)
+            is_there(bounds.lower, limits.numbers.len())
+                && is_there(bounds.upper, limits.numbers.len())
         }
-        Row::Multiple(q) | Row::NotMultiple(q) => usize::from(q) < numbers,
+        Row::Multiple(q) | Row::NotMultiple(q) => usize::from(q) < limits.numbers.len(),
         Row::EveryMember(p, o) | Row::SomeMember(p, o) => {
-            usize::from(p) < patterns && usize::from(o) < at
+            usize::from(p) < limits.patterns && usize::from(o) < at
         }
         Row::EveryElement(o) | Row::SomeElement(o) | Row::Not(o) => usize::from(o) < at,
         Row::Count(o, range) => usize::from(o) < at && is_ended(range),
@@ -61,11 +63,14 @@ pub fn number_at<K: Number>(numbers: &[K], i: usize) -> K
 }
 
 // Whether the number that a row takes multiples of is above zero, if it takes any.
-fn is_above_zero<K: Number>(row: Row, numbers: &[K], patterns: usize) -> bool
-    ensures { result ≡ row_above (limits_of K.Number.kind patterns numbers.now) row }
+fn is_above_zero<K: Number>(row: Row, limits: Limits<'_, K>) -> bool
+    ensures { result ≡ row_above (limits_in K.Number.kind limits.entry) row }
 {
     match row {
-        Row::Multiple(q) | Row::NotMultiple(q) => number_at(numbers, usize::from(q)).is_positive(),
+        Row::Multiple(q) | Row::NotMultiple(q) => number_at(
+            limits.numbers,
+            usize::from(q),
+        ).is_positive(),
         _ => true,
     }
 }
@@ -75,15 +80,14 @@ pub fn test_row<K: Number>(
     row: Row,
     at: usize,
     place: usize,
-    numbers: &[K],
-    patterns: usize,
+    limits: Limits<'_, K>,
 ) -> Result<(), BookFault>
-    ensures { result ≡ row_test (limits_of K.Number.kind patterns numbers.now) at place row }
+    ensures { result ≡ row_test (limits_in K.Number.kind limits.entry) at place row }
 {
-    if !is_allowed(row, at, patterns, numbers.len()) {
+    if !is_allowed(row, at, limits) {
         return Err(BookFault::NotAllowed(place));
     }
-    if !is_above_zero(row, numbers, patterns) {
+    if !is_above_zero(row, limits) {
         return Err(BookFault::NotAboveZero(place));
     }
     Ok(())
@@ -100,18 +104,13 @@ pub fn test_variable(row: Row, definitions: usize, place: usize) -> Result<(), B
 }
 
 // Tests row number `at` of rows in memory.
-fn test_counted_row<K: Number>(
-    row: Row,
-    at: usize,
-    numbers: &[K],
-    patterns: usize,
-) -> Result<(), BookFault>
-    ensures { result ≡ counted_row (limits_of K.Number.kind patterns numbers.now) at row }
+fn test_counted_row<K: Number>(row: Row, at: usize, limits: Limits<'_, K>) -> Result<(), BookFault>
+    ensures { result ≡ counted_row (limits_in K.Number.kind limits.entry) at row }
 {
     if at >= MOST_ROWS {
         return Err(BookFault::TooMany(at));
     }
-    test_row(row, at, at, numbers, patterns)
+    test_row(row, at, at, limits)
 }
 
 // Tests definition number k of definitions in memory: its body row is there.
@@ -128,15 +127,11 @@ fn test_definition(body: u16, k: usize, rows: usize) -> Result<(), BookFault>
 }
 
 // Tests rows, by number.
-pub(crate) fn test_rows<K: Number>(
-    rows: &[Row],
-    numbers: &[K],
-    patterns: usize,
-) -> Result<(), BookFault>
-    ensures { result ≡ first_refused (counted_row (limits_of K.Number.kind patterns numbers.now)) 0 rows.now }
+pub(crate) fn test_rows<K: Number>(rows: &[Row], limits: Limits<'_, K>) -> Result<(), BookFault>
+    ensures { result ≡ first_refused (counted_row (limits_in K.Number.kind limits.entry)) 0 rows.now }
 {
     for (at, row) in rows.iter().enumerate() {
-        test_counted_row(*row, at, numbers, patterns)?;
+        test_counted_row(*row, at, limits)?;
     }
     Ok(())
 }
