@@ -2,10 +2,8 @@
 ghost use Rattle.std.specs.Prelude.{◌≡◌};
 ghost use Rattle.clearing.specs.Counting.{sides, RangeCount, RowCount, RowsCount};
 
+use books::limits::MOST_ROWS;
 use rules::row::{Range, Row};
-
-// A book has at most so many rows.
-pub(crate) const MOST_ROWS: usize = 2048;
 
 // The count of rows that a row adds which leaves out values below, or above.
 fn sides_count(low: bool, high: bool) -> usize

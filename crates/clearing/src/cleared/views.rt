@@ -7,6 +7,8 @@ ghost use Rattle.clearing.specs.Cleared.{Nothing};
 use crate::cleared::Cleared;
 use crate::form::is_cleared;
 use books::book::Book;
+use books::draft::Draft;
+use books::limits::Limits;
 use kinds::whole::Whole;
 use rules::row::Row;
 
@@ -24,8 +26,16 @@ impl<'a> Cleared<'a> {
         ensures nothing { Nothing result }
         ensures cleared { ClearedBook (view_limits result.book) (viewed result.book) }
     {
+        let draft = Draft {
+            rows: &FALSE_AND_TRUE,
+            definitions: &FIRST_AND_SECOND,
+        };
+        let limits = Limits {
+            numbers: &NO_NUMBERS,
+            patterns: 0,
+        };
         Cleared {
-            book: Book::seal(&FALSE_AND_TRUE, &FIRST_AND_SECOND, &NO_NUMBERS, 0),
+            book: Book::seal(draft, limits),
         }
     }
 
@@ -43,14 +53,14 @@ impl<'a> Cleared<'a> {
 
     // The rows.
     pub fn rows(&self) -> &'a [Row]
-        ensures { result.now ≡ self.now.book.rows.now }
+        ensures { result.now ≡ self.now.book.draft.rows.now }
     {
         self.book.rows()
     }
 
     // The body rows of the definitions, and then of their complements.
     pub fn definitions(&self) -> &'a [u16]
-        ensures { result.now ≡ self.now.book.definitions.now }
+        ensures { result.now ≡ self.now.book.draft.definitions.now }
     {
         self.book.definitions()
     }
