@@ -1,5 +1,5 @@
 -- What has been written of a cleared book.
-use Rattle.std.proofs.Common.{◌≡◌, ℕ, ◌+◌, ◌-◌, ◌<◌, ◌≤◌, List, [], ◌∷◌, ◌++◌, map, length, get_or, take, drop, set, sym, refl, ap, ◌∙◌, ap₂, add-one, arith, length-append, length-drop, take-suc-set}
+use Rattle.std.proofs.Common.{◌≡◌, ℕ, ◌+◌, ◌-◌, ◌<◌, ◌≤◌, List, [], ◌∷◌, ◌++◌, map, length, get_or, take, drop, set, sym, refl, ap, ◌∙◌, ap₂, add-one, arith, length-append, take-suc-set}
 use lib.Seq.{paste}
 use Rattle.std.proofs.lemmas.List.{get_or-map, length-map, drop-drop, drop_at}
 use Rattle.std.proofs.lemmas.List.Edits.{paste_more, paste_all, paste-paste}
@@ -13,9 +13,6 @@ use Rattle.clearing.specs.Writing.{written_over}
 module _ {A : Type 0} (E : List A) where
   pub over_all : (s : List A) (n : ℕ) → n ≡ length s → paste E 0 s n ≡ written_over s E
   over_all s n e = let same : 0 + n ≡ length s = omega arith in paste_all E 0 s n e ∙ ap (λ k. s ++ drop k E) same
-
-  pub over_long : (s : List A) → length s ≤ length E → length (written_over s E) ≡ length E
-  over_long s h = omega (arith, length-append s (drop (length s) E), length-drop (length s) E)
 
   -- what was written before, and is written over again, doesn't matter
   pub over_front : (out a s : List A) → out ≡ paste E 0 a (length a) → length a ≤ length s → written_over s out ≡ written_over s E

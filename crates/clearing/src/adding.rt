@@ -5,6 +5,7 @@ ghost use Rattle.clearing.specs.Adding.{Plain, listed};
 
 use crate::added::Added;
 use crate::complements::FreeRow;
+use crate::fixed::{FALSE_ROW, TRUE_ROW};
 use rules::place::Place;
 use rules::row::{Row, ValueType};
 
@@ -23,8 +24,8 @@ pub(crate) fn adds(places: &[Place], d: u16, s: FreeRow, row: Row) -> Added
 {
     let at = |r| place_of(places, r);
     match row {
-        Row::True => Added::nothing(6, 7),
-        Row::False => Added::nothing(7, 6),
+        Row::True => Added::nothing(TRUE_ROW, FALSE_ROW),
+        Row::False => Added::nothing(FALSE_ROW, TRUE_ROW),
         Row::OfType(t) => s.of_type(t),
         Row::BooleanIs(b) => s.turn(ValueType::Boolean, row, Row::BooleanIs(!b)),
         Row::Pattern(p) => s.turn(ValueType::Text, row, Row::NotPattern(p)),

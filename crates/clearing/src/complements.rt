@@ -8,10 +8,11 @@ ghost use Rattle.rules.specs.Clear.{added as added_rows, turn as turned_rows, ou
 ghost use Rattle.clearing.specs.Adding.{EndsBelow, Gives, nowhere, listed};
 
 use crate::added::{Added, NewRows};
+use crate::fixed::FALSE_ROW;
 use rules::place::Place;
 use rules::row::{Bounds, Range, Row, ValueType};
 
-// The row of the k-th type, t left out. The rows of the types stand first, in their order.
+// The row of the k-th type, t left out.
 fn other_type(t: ValueType, k: u16) -> u16
     requires { k < 5 }
     ensures { result ≡ other_type t k }
@@ -135,7 +136,7 @@ impl FreeRow {
                 rows: NewRows::One([row]),
                 stands: Place {
                     positive: s,
-                    negative: 7,
+                    negative: FALSE_ROW,
                 },
             },
             (Some(side), None) | (None, Some(side)) => self.turn(t, row, side),

@@ -2,6 +2,7 @@
 ghost use Rattle.std.specs.Prelude.{◌≡◌};
 ghost use Rattle.clearing.specs.Counting.{sides, RangeCount, RowCount, RowsCount};
 
+use crate::fixed::FIXED;
 use books::limits::MOST_ROWS;
 use rules::row::{Range, Row};
 
@@ -56,7 +57,7 @@ pub(crate) fn cleared_count(rows: &[Row], d: usize) -> Option<usize>
     if rows.len() > MOST_ROWS {
         return None;
     }
-    let mut count = 8;
+    let mut count = FIXED.len();
     for row in rows {
         count += added_count(*row, d)?;
     }

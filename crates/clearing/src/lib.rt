@@ -11,6 +11,7 @@ pub mod cleared;
 mod complements;
 mod counting;
 pub mod fault;
+mod fixed;
 pub mod form;
 pub mod memory;
 pub mod sealed;

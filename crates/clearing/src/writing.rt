@@ -6,20 +6,9 @@ ghost use Rattle.clearing.specs.Writing.{bodies, written_over, Writable, Written
 
 use crate::adding::{adds, place_of};
 use crate::complements::FreeRow;
+use crate::fixed::FIXED;
 use rules::place::Place;
-use rules::row::{Row, ValueType};
-
-// The rows that every cleared book begins with.
-const FIXED: [Row; 8] = [
-    Row::OfType(ValueType::Null),
-    Row::OfType(ValueType::Boolean),
-    Row::OfType(ValueType::Number),
-    Row::OfType(ValueType::Text),
-    Row::OfType(ValueType::List),
-    Row::OfType(ValueType::Object),
-    Row::True,
-    Row::False,
-];
+use rules::row::Row;
 
 // Writes rows over those from `at` on.
 fn put(out: &mut [Row], at: usize, rows: &[Row])

@@ -12,26 +12,19 @@ use books::limits::Limits;
 use kinds::whole::Whole;
 use rules::row::Row;
 
-// A definition whose body is a row that is false, and its complement.
-static FALSE_AND_TRUE: [Row; 2] = [Row::False, Row::True];
-
-static FIRST_AND_SECOND: [u16; 2] = [0, 1];
-
-// It has no numbers, so that their kind is all one.
-static NO_NUMBERS: [Whole; 0] = [];
-
 impl<'a> Cleared<'a> {
-    // The cleared book that accepts nothing.
+    // The cleared book that accepts nothing: a definition whose body is a row that is false, and its complement.
     fn accepting_nothing() -> Cleared<'a>
         ensures nothing { Nothing result }
         ensures cleared { ClearedBook (view_limits result.book) (viewed result.book) }
     {
         let draft = Draft {
-            rows: &FALSE_AND_TRUE,
-            definitions: &FIRST_AND_SECOND,
+            rows: &[Row::False, Row::True],
+            definitions: &[0, 1],
         };
-        let limits = Limits {
-            numbers: &NO_NUMBERS,
+        // it has no numbers, so that their kind is all one
+        let limits = Limits::<Whole> {
+            numbers: &[],
             patterns: 0,
         };
         Cleared {
