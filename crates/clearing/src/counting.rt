@@ -2,10 +2,9 @@
 ghost use Rattle.std.specs.Prelude.{◌≡◌};
 ghost use Rattle.clearing.specs.Counting.{sides, RangeCount, RowCount, RowsCount};
 
+use crate::fixed::FIXED;
+use books::limits::MOST_ROWS;
 use rules::row::{Range, Row};
-
-// A book has at most so many rows.
-pub(crate) const MOST_ROWS: usize = 2048;
 
 // The count of rows that a row adds which leaves out values below, or above.
 fn sides_count(low: bool, high: bool) -> usize
@@ -18,14 +17,11 @@ fn sides_count(low: bool, high: bool) -> usize
     }
 }
 
-// One more than the upper end must still be an end.
+// The count of rows that a range adds, whose complement begins at one more than its upper end.
 fn range_count(range: Range) -> Option<usize>
     ensures { RangeCount range result }
 {
-    if range.upper == Some(u16::MAX) {
-        return None;
-    }
-    Some(sides_count(range.lower > 0, range.upper.is_some()))
+    (range.upper != Some(u16::MAX)).then(|| sides_count(range.lower > 0, range.upper.is_some()))
 }
 
 // The count of rows that a row adds, or nothing where its complement can't be written down. There are d definitions.
@@ -50,8 +46,7 @@ fn added_count(row: Row, d: usize) -> Option<usize>
             bounds.upper.is_some(),
         )),
         Row::And(_, _) | Row::Or(_, _) => Some(2),
-        Row::Variable(v) if usize::from(v) < d => Some(2),
-        Row::Variable(_) => None,
+        Row::Variable(v) => (usize::from(v) < d).then_some(2),
     }
 }
 
@@ -62,7 +57,7 @@ pub(crate) fn cleared_count(rows: &[Row], d: usize) -> Option<usize>
     if rows.len() > MOST_ROWS {
         return None;
     }
-    let mut count = 8;
+    let mut count = FIXED.len();
     for row in rows {
         count += added_count(*row, d)?;
     }
