@@ -1,19 +1,21 @@
 -- What the files `names`, `masks` and `book` come to, and what is printed then.
 use Rattle.std.specs.Prelude.{◌≡◌, ℕ, ◌⊎◌, List, Ok, Err, Result}
 use Rattle.dialects.specs.Dialects.{pair_count}
-use Rattle.dialects.specs.Files.{Outcome}
+use Rattle.dialects.specs.Files.{Outcome, room as part_room}
 use Rattle.dialects.specs.declared.fault.PatternFault.{PatternFault}
 use Rattle.numbers.specs.Kinds.{Kind}
 use Rattle.rules.specs.Book.{Book}
 use Rattle.rules.specs.Clear.{clear}
-use Rattle.book_files.specs.Drafts.{Draft, Room, numbers, book}
+use Rattle.book_files.specs.Drafts.{Draft, Room, room_of, held, numbers, book}
 use Rattle.book_files.specs.Files.{ComesTo}
-use Rattle.clearing.specs.Outcomes.{RowsFit, DefinitionsFit}
+use Rattle.clearing.specs.Outcomes.{RowsFit, DefinitionsFit, memory_of}
 use Rattle.clearing.specs.declared.fault.ClearFault.{ClearFault}
 use Rattle.clearing.specs.declared.fault.ClearFault.TheVariants.{TooManyRows, TooManyDefinitions}
 use Rattle.book_lines.specs.Lines.{book_text}
 use Rattle.clear_book.specs.declared.fault.Fault.{Fault}
 use Rattle.clear_book.specs.declared.fault.Fault.TheVariants.{Patterns, Book as BookRefused, Clearing}
+use Rattle.clear_book.specs.declared.files.Files.{Files}
+use Rattle.clear_book.specs.declared.files.Memory.{Memory}
 use Rattle.clear_book.specs.Faults.{refused_line}
 
 -- how many patterns names and masks have side by side, or the first refusal of the two files
@@ -51,6 +53,11 @@ module _ {K : Type 0} (kind : Kind K) (room : Room) (memory : Book) (file : List
   Comes most names masks end =
       ((fault : PatternFault) × (end ≡ Err (Patterns fault)) × Counts most names masks (Err fault))
       ⊎ ((p : ℕ) × Counts most names masks (Ok p) × BookComes p end)
+
+-- what the three files come to, with this memory
+abbrev pub FilesCome : {K : Type 0} → Kind K → Files → Memory K → End K → Type 0
+FilesCome kind files memory =
+    Comes kind (room_of (held memory.book)) (memory_of memory.cleared) files.book.now (part_room memory.parts.now) files.names.now files.masks.now
 
 -- it comes to this, and to nothing else
 abbrev pub Settled : {E : Type 0} → (E → Type 0) → E → Type 0

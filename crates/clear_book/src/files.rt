@@ -1,8 +1,6 @@
 // Reads the three files, and clears the book.
 ghost use Rattle.dialects.specs.Files.{room};
-ghost use Rattle.book_files.specs.Drafts.{held, room_of};
-ghost use Rattle.clearing.specs.Outcomes.{memory_of};
-ghost use Rattle.clear_book.specs.Files.{Counts, Settled, Comes};
+ghost use Rattle.clear_book.specs.Files.{Counts, Settled, FilesCome};
 ghost use Rattle.clear_book.specs.Steps.{shown_of};
 
 use crate::fault::Fault;
@@ -45,7 +43,7 @@ pub(crate) fn clear_files<'a, K: Number>(
     files: Files<'_>,
     memory: &'a mut Memory<'_, K>,
 ) -> Result<LimitedBook<'a, K>, Fault>
-    ensures { Settled (Comes K.Number.kind (room_of (held memory.old.book)) (memory_of memory.old.cleared) files.entry.book.now (room memory.old.parts.now) files.entry.names.now files.entry.masks.now) (shown_of result) }
+    ensures { Settled (FilesCome K.Number.kind files.entry memory.old) (shown_of result) }
 {
     let patterns = pattern_count(files.names, files.masks, memory.parts)?;
     let book = LimitedBook::read(files.book, patterns, &mut memory.book)?;

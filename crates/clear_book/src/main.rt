@@ -2,11 +2,8 @@
 #![tactic(auto)]
 
 ghost use Rattle.std.specs.Prelude.{IfOk};
-ghost use Rattle.dialects.specs.Files.{room};
 ghost use Rattle.kinds.specs.Decimals.{decimal_kind};
-ghost use Rattle.book_files.specs.Drafts.{held, room_of};
-ghost use Rattle.clearing.specs.Outcomes.{memory_of};
-ghost use Rattle.clear_book.specs.Files.{Comes, Prints};
+ghost use Rattle.clear_book.specs.Files.{FilesCome, Prints};
 
 mod fault;
 mod files;
@@ -65,7 +62,7 @@ fn answers(
     files: Files<'_>,
     memory: &mut Memory<'_, Decimal>,
 ) -> Result<Vec<u8>, AllocError>
-    ensures { IfOk result (λ v. Prints decimal_kind (Comes decimal_kind (room_of (held memory.old.book)) (memory_of memory.old.cleared) files.entry.book.now (room memory.old.parts.now) files.entry.names.now files.entry.masks.now) v.items) }
+    ensures { IfOk result (λ v. Prints decimal_kind (FilesCome decimal_kind files.entry memory.old) v.items) }
 {
     match clear_files(files, memory) {
         Ok(cleared) => cleared_lines(heap, cleared.draft, cleared.limits.numbers),
