@@ -7,14 +7,7 @@ ghost use Rattle.books.specs.Tests.{is_ended, is_there, row_fits, row_above, row
 use crate::fault::BookFault;
 use crate::limits::{Limits, MOST_DEFINITIONS, MOST_ROWS};
 use kinds::number::Number;
-use rules::row::{Range, Row};
-
-// Whether one more than the upper end is still an end.
-fn is_ended(range: Range) -> bool
-    ensures { result ≡ is_ended range }
-{
-    range.upper.is_none_or(|upper| upper < u16::MAX)
-}
+use rules::row::Row;
 
 // Whether a number of the book is there, or none is asked for.
 fn is_there(index: Option<u16>, numbers: usize) -> bool
@@ -30,7 +23,7 @@ fn is_allowed<K>(row: Row, at: usize, limits: Limits<'_, K>) -> bool
     match row {
         Row::True | Row::False | Row::OfType(_) | Row::BooleanIs(_) | Row::Variable(_) => true,
         Row::Pattern(p) | Row::NotPattern(p) => usize::from(p) < limits.patterns,
-        Row::Length(range) | Row::Members(range) => is_ended(range),
+        Row::Length(range) | Row::Members(range) => range.is_ended(),
         Row::Between(bounds) | Row::StrictlyBetween(bounds) => {
             is_there(bounds.lower, limits.numbers.len())
                 && is_there(bounds.upper, limits.numbers.len())
@@ -40,7 +33,7 @@ fn is_allowed<K>(row: Row, at: usize, limits: Limits<'_, K>) -> bool
             usize::from(p) < limits.patterns && usize::from(o) < at
         }
         Row::EveryElement(o) | Row::SomeElement(o) | Row::Not(o) => usize::from(o) < at,
-        Row::Count(o, range) => usize::from(o) < at && is_ended(range),
+        Row::Count(o, range) => usize::from(o) < at && range.is_ended(),
         Row::And(a, b) | Row::Or(a, b) => usize::from(a) < at && usize::from(b) < at,
     }
 }
