@@ -7,22 +7,27 @@ use crate::draft::Draft;
 use crate::fault::BookFault;
 use crate::guard::lowest_cycle;
 use crate::limits::{Limits, MOST_NUMBERS};
-use crate::parts::{test_definitions, test_rows, test_variables};
+use crate::parts::{ensure, test_counted_row, test_definition, test_each, test_variable};
 use kinds::number::Number;
 
 // Tests the numbers, the rows and the definitions of a book, and that what they name is there.
 fn test_parts<K: Number>(draft: Draft<'_>, limits: Limits<'_, K>) -> Result<(), BookFault>
     ensures { result ≡ plain_test (limits_in K.Number.kind limits.entry) (drafted draft.entry) }
 {
-    if limits.numbers.len() > MOST_NUMBERS {
-        return Err(BookFault::TooMany(MOST_NUMBERS));
-    }
-    test_rows(draft.rows, limits)?;
-    test_definitions(draft.definitions, draft.rows.len())?;
-    if draft.definitions.len() == 0 {
-        return Err(BookFault::NoDefinition(0));
-    }
-    test_variables(draft.rows, draft.definitions.len())
+    ensure(
+        limits.numbers.len() <= MOST_NUMBERS,
+        BookFault::TooMany(MOST_NUMBERS),
+    )?;
+    test_each(draft.rows, |at, row| test_counted_row(row, at, limits))?;
+    test_each(
+        draft.definitions,
+        |k, body| test_definition(body, k, draft.rows.len()),
+    )?;
+    ensure(!draft.definitions.is_empty(), BookFault::NoDefinition(0))?;
+    test_each(
+        draft.rows,
+        |at, row| test_variable(row, draft.definitions.len(), at),
+    )
 }
 
 // Tests whether rows and definitions in memory are a book that can be sealed, with these numbers and for this count of patterns.
