@@ -1,5 +1,5 @@
 // What a row adds to the cleared book.
-ghost use Rattle.std.specs.Prelude.{◌≡◌, []};
+ghost use Rattle.std.specs.Prelude.{◌≡◌};
 ghost use Rattle.rules.specs.Clear.{added as added_rows};
 ghost use Rattle.clearing.specs.Adding.{rows_of, listed};
 
@@ -40,12 +40,12 @@ pub(crate) struct Added {
 }
 
 impl Added {
-    // No row, as what stands at these places says it already.
-    pub(crate) fn nothing(positive: u16, negative: u16) -> Added
-        ensures { listed result ≡ added_rows [] positive negative }
+    // Rows that are added for a row which then stands at `positive`, and its complement at `negative`.
+    pub(crate) fn new(rows: NewRows, positive: u16, negative: u16) -> Added
+        ensures { listed result ≡ added_rows (rows_of rows) positive negative }
     {
         Added {
-            rows: NewRows::None,
+            rows,
             stands: Place { positive, negative },
         }
     }

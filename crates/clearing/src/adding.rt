@@ -3,7 +3,7 @@ ghost use Rattle.std.specs.Prelude.{◌≡◌, ◌≤◌};
 ghost use Rattle.rules.specs.Clear.{adds as adds_rows, look_up};
 ghost use Rattle.clearing.specs.Adding.{Plain, listed};
 
-use crate::added::Added;
+use crate::added::{Added, NewRows};
 use crate::complements::FreeRow;
 use crate::fixed::{FALSE_ROW, TRUE_ROW};
 use rules::place::Place;
@@ -24,8 +24,8 @@ pub(crate) fn adds(places: &[Place], d: u16, s: FreeRow, row: Row) -> Added
 {
     let at = |r| place_of(places, r);
     match row {
-        Row::True => Added::nothing(TRUE_ROW, FALSE_ROW),
-        Row::False => Added::nothing(FALSE_ROW, TRUE_ROW),
+        Row::True => Added::new(NewRows::None, TRUE_ROW, FALSE_ROW),
+        Row::False => Added::new(NewRows::None, FALSE_ROW, TRUE_ROW),
         Row::OfType(t) => s.of_type(t),
         Row::BooleanIs(b) => s.turn(ValueType::Boolean, row, Row::BooleanIs(!b)),
         Row::Pattern(p) => s.turn(ValueType::Text, row, Row::NotPattern(p)),
@@ -62,7 +62,7 @@ pub(crate) fn adds(places: &[Place], d: u16, s: FreeRow, row: Row) -> Added
         Row::Or(a, b) => s.pair_on(at(a), at(b), Row::Or, Row::And),
         Row::Not(o) => {
             let Place { positive, negative } = at(o);
-            Added::nothing(negative, positive)
+            Added::new(NewRows::None, negative, positive)
         }
         Row::Variable(v) => s.pair(row, Row::Variable(d + v)),
     }

@@ -1,8 +1,5 @@
 // The forms of a row and its complement.
 ghost use Rattle.std.specs.Prelude.{◌≡◌, ◌+◌, ◌<◌, ◌≤◌, [], ◌∷◌};
-ghost use Rattle.rules.specs.declared.row.Range.{Range as RangeOf};
-ghost use Rattle.rules.specs.declared.row.Bounds.{Bounds as BoundsOf};
-ghost use Rattle.rules.specs.declared.row.Row.{Row as RowOf};
 ghost use Rattle.rules.specs.declared.row.Row.TheVariants.{OfType};
 ghost use Rattle.rules.specs.Clear.{added as added_rows, turn as turned_rows, outside as outside_rows, below as below_lower, above as above_upper, under as under_lower, over as over_upper, around_range, around_bounds, adds as adds_rows, other_type};
 ghost use Rattle.clearing.specs.Adding.{EndsBelow, Gives, nowhere, listed};
@@ -73,13 +70,8 @@ impl FreeRow {
     pub(crate) fn pair(self, row: Row, complement: Row) -> Added
         ensures { listed result ≡ added_rows (row ∷ complement ∷ []) self.number (self.number + 1) }
     {
-        Added {
-            rows: NewRows::Two([row, complement]),
-            stands: Place {
-                positive: self.number,
-                negative: self.number + 1,
-            },
-        }
+        let s = self.number;
+        Added::new(NewRows::Two([row, complement]), s, s + 1)
     }
 
     // The row and, for values of its type, the turned row.
@@ -87,13 +79,8 @@ impl FreeRow {
         ensures { listed result ≡ turned_rows t self.number row back }
     {
         let s = self.number;
-        Added {
-            rows: NewRows::Three([row, back, Row::And(u16::from(t), s + 1)]),
-            stands: Place {
-                positive: s,
-                negative: s + 2,
-            },
-        }
+        let typed = Row::And(u16::from(t), s + 1);
+        Added::new(NewRows::Three([row, back, typed]), s, s + 2)
     }
 
     // A row on the row at this place and, for values of its type, the turned row on its complement.
@@ -106,7 +93,7 @@ impl FreeRow {
     ) -> Added
         requires row { F.IsAlwaysCallable row }
         requires back { G.IsAlwaysCallable back }
-        ensures { (x y : RowOf) × F.post row place.positive x × G.post back place.negative y × (listed result ≡ turned_rows t self.number x y) }
+        ensures { (x y : _) × F.post row place.positive x × G.post back place.negative y × (listed result ≡ turned_rows t self.number x y) }
     {
         self.turn(t, row(place.positive), back(place.negative))
     }
@@ -121,7 +108,7 @@ impl FreeRow {
     ) -> Added
         requires row { F.IsAlwaysCallable row }
         requires back { G.IsAlwaysCallable back }
-        ensures { (a b : RowOf) × F.post row x.positive y.positive a × G.post back x.negative y.negative b × (listed result ≡ added_rows (a ∷ b ∷ []) self.number (self.number + 1)) }
+        ensures { (a b : _) × F.post row x.positive y.positive a × G.post back x.negative y.negative b × (listed result ≡ added_rows (a ∷ b ∷ []) self.number (self.number + 1)) }
     {
         self.pair(row(x.positive, y.positive), back(x.negative, y.negative))
     }
@@ -132,27 +119,13 @@ impl FreeRow {
     {
         let s = self.number;
         match (low, high) {
-            (None, None) => Added {
-                rows: NewRows::One([row]),
-                stands: Place {
-                    positive: s,
-                    negative: FALSE_ROW,
-                },
-            },
+            (None, None) => Added::new(NewRows::One([row]), s, FALSE_ROW),
             (Some(side), None) | (None, Some(side)) => self.turn(t, row, side),
-            (Some(low), Some(high)) => Added {
-                rows: NewRows::Five([
-                    row,
-                    low,
-                    high,
-                    Row::Or(s + 1, s + 2),
-                    Row::And(u16::from(t), s + 3),
-                ]),
-                stands: Place {
-                    positive: s,
-                    negative: s + 4,
-                },
-            },
+            (Some(low), Some(high)) => {
+                let sides = Row::Or(s + 1, s + 2);
+                let typed = Row::And(u16::from(t), s + 3);
+                Added::new(NewRows::Five([row, low, high, sides, typed]), s, s + 4)
+            }
         }
     }
 
@@ -165,7 +138,7 @@ impl FreeRow {
     ) -> Added
         requires row { F.IsAlwaysCallable row }
         requires ends { EndsBelow range.upper }
-        ensures { (f : RangeOf → RowOf) → Gives (F.post row) f → listed result ≡ around_range t self.number f range }
+        ensures { (f : _) → Gives (F.post row) f → listed result ≡ around_range t self.number f range }
     {
         let low = below(range.lower).map(&row);
         let high = above(range.upper).map(&row);
@@ -181,7 +154,7 @@ impl FreeRow {
     ) -> Added
         requires row { F.IsAlwaysCallable row }
         requires back { G.IsAlwaysCallable back }
-        ensures { (f g : BoundsOf → RowOf) → Gives (F.post row) f → Gives (G.post back) g → listed result ≡ around_bounds self.number f g bounds }
+        ensures { (f g : _) → Gives (F.post row) f → Gives (G.post back) g → listed result ≡ around_bounds self.number f g bounds }
     {
         let low = under(bounds.lower).map(&back);
         let high = over(bounds.upper).map(&back);
@@ -193,17 +166,12 @@ impl FreeRow {
         ensures { listed result ≡ adds_rows (λ _. nowhere) 0 self.number (OfType t) }
     {
         let s = self.number;
-        Added {
-            rows: NewRows::Four([
-                Row::Or(other_type(t, 0), other_type(t, 1)),
-                Row::Or(s, other_type(t, 2)),
-                Row::Or(s + 1, other_type(t, 3)),
-                Row::Or(s + 2, other_type(t, 4)),
-            ]),
-            stands: Place {
-                positive: u16::from(t),
-                negative: s + 3,
-            },
-        }
+        let rows = [
+            Row::Or(other_type(t, 0), other_type(t, 1)),
+            Row::Or(s, other_type(t, 2)),
+            Row::Or(s + 1, other_type(t, 3)),
+            Row::Or(s + 2, other_type(t, 4)),
+        ];
+        Added::new(NewRows::Four(rows), u16::from(t), s + 3)
     }
 }
