@@ -1,9 +1,10 @@
 // Reads what stands in a field: a number, a row or a definition.
 ghost use Rattle.std.specs.Prelude.{◌≡◌};
-ghost use Rattle.rules.specs.Book.{limits_of};
+ghost use Rattle.books.specs.Drafts.{limits_in};
 ghost use Rattle.book_fields.specs.Items.{number_from, row_from, definition_from};
 
 use books::fault::BookFault;
+use books::limits::Limits;
 use books::parts::test_row;
 use kinds::number::{Number, read_number};
 use rows::reading::read_row;
@@ -22,16 +23,15 @@ pub fn number_of<K: Number>(body: &[u8], place: usize, full: bool) -> Result<K, 
     }
 }
 
-// The row of ten bytes, as row number `at` of a book with these numbers, unless the memory or the maximum is full.
+// The row of ten bytes, as row number `at` of a book within these limits, unless the memory or the maximum is full.
 pub fn row_of<K: Number>(
     body: &[u8],
     place: usize,
     full: bool,
     at: usize,
-    numbers: &[K],
-    patterns: usize,
+    limits: Limits<'_, K>,
 ) -> Result<Row, BookFault>
-    ensures { result ≡ row_from (limits_of K.Number.kind patterns numbers.now) full at place body.now }
+    ensures { result ≡ row_from (limits_in K.Number.kind limits.entry) full at place body.now }
 {
     if full {
         return Err(BookFault::TooMany(place));
@@ -39,7 +39,7 @@ pub fn row_of<K: Number>(
     let Some(row) = read_row(body) else {
         return Err(BookFault::NotAllowed(place));
     };
-    test_row(row, at, place, numbers, patterns)?;
+    test_row(row, at, place, limits)?;
     Ok(row)
 }
 

@@ -1,10 +1,11 @@
 -- What a book's file is: the fields of its numbers, then those of its rows, then those of its definitions.
-use Rattle.std.specs.Prelude.{ℕ, ◌+◌, ◌*◌, ◌/◌, ◌%◌, min, List, [], ◌∷◌, ◌++◌, map, length}
+use Rattle.std.specs.Prelude.{◌≡◌, ℕ, ◌+◌, ◌*◌, ◌/◌, ◌%◌, min, List, [], ◌∷◌, ◌++◌, map, length}
 use Rattle.fields.specs.Fields.{field_bytes}
 use Rattle.rules.specs.Book.{Book}
 use Rattle.rules.specs.declared.row.Row.{Row}
 use Rattle.rows.specs.Rows.{row_bytes}
 use Rattle.books.specs.Guard.{book_of}
+use Rattle.book_files.specs.declared.memory.BookMemory.{BookMemory}
 use Rattle.book_files.specs.declared.reading.BookCounts.{BookCounts}
 
 -- a number token of a file, and the value that it stands for
@@ -64,6 +65,16 @@ pub record Memory (K : Type 0) : Type 0 where
 
 abbrev pub memory : {K : Type 0} → List K → List Row → List ℕ → Memory K
 memory numbers rows definitions = record { numbers = numbers; rows = rows; definitions = definitions }
+
+-- what stands in memory that is lent
+abbrev pub held : {K : Type 0} → BookMemory K → Memory K
+held lent = memory lent.numbers.now lent.rows.now lent.definitions.now
+
+-- the same memory is lent as before
+pub record SameLent {K : Type 0} (before after : BookMemory K) : Type 0 where
+  pub numbers : after.numbers.ghost_name ≡ before.numbers.ghost_name
+  pub rows : after.rows.ghost_name ≡ before.rows.ghost_name
+  pub definitions : after.definitions.ghost_name ≡ before.definitions.ghost_name
 
 -- how many of each it takes: no more than a book may have
 pub record Room : Type 0 where

@@ -1,10 +1,12 @@
 // What is tested at the end of a book's file.
 ghost use Rattle.std.specs.Prelude.{◌≡◌, ◌+◌, ◌*◌, ◌≤◌, length};
-ghost use Rattle.rules.specs.Book.{limits_of};
+ghost use Rattle.books.specs.Drafts.{limits_in};
 ghost use Rattle.books.specs.Tests.{variable_test, first_refused};
 ghost use Rattle.book_files.specs.Filling.{TestsEnd};
 
+use books::draft::Draft;
 use books::fault::BookFault;
+use books::limits::Limits;
 use books::parts::test_variable;
 use books::sealing::test_book;
 use kinds::number::Number;
@@ -29,18 +31,16 @@ fn test_variables_from(rows: &[Row], definitions: usize, place: usize) -> Result
 // Tests a book whose file of this size is read. Its rows and definitions are the last fields, so their places follow from the size.
 pub(crate) fn test_end<K: Number>(
     size: usize,
-    rows: &[Row],
-    definitions: &[u16],
-    numbers: &[K],
-    patterns: usize,
+    draft: Draft<'_>,
+    limits: Limits<'_, K>,
 ) -> Result<(), BookFault>
-    requires { (size ≤ 65535) × (13 * length rows.now + 5 * length definitions.now ≤ size) }
-    ensures { TestsEnd (limits_of K.Number.kind patterns numbers.now) size rows.now definitions.now result }
+    requires { (size ≤ 65535) × (13 * length draft.rows.now + 5 * length draft.definitions.now ≤ size) }
+    ensures { TestsEnd (limits_in K.Number.kind limits.entry) size draft.entry.rows.now draft.entry.definitions.now result }
 {
-    if definitions.len() == 0 {
+    if draft.definitions.len() == 0 {
         return Err(BookFault::NoDefinition(size));
     }
-    let place = size - ROW_FIELD * rows.len() - DEFINITION_FIELD * definitions.len();
-    test_variables_from(rows, definitions.len(), place)?;
-    test_book(rows, definitions, numbers, patterns)
+    let place = size - ROW_FIELD * draft.rows.len() - DEFINITION_FIELD * draft.definitions.len();
+    test_variables_from(draft.rows, draft.definitions.len(), place)?;
+    test_book(draft, limits)
 }

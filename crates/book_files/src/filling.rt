@@ -1,6 +1,6 @@
 // Fills in the numbers, rows and definitions of a book's file, field by field.
 ghost use Rattle.std.specs.Prelude.{◌≡◌, ◌≤◌, min, length, nat_le};
-ghost use Rattle.rules.specs.Book.{limits_of};
+ghost use Rattle.books.specs.Drafts.{limits_in};
 ghost use Rattle.book_fields.specs.Items.{number_from, row_from, definition_from};
 ghost use Rattle.book_files.specs.Drafts.{memory};
 ghost use Rattle.book_files.specs.Filling.{Adds, Fills};
@@ -9,7 +9,7 @@ use crate::reading::BookCounts;
 use book_fields::field::{NUMBER_TAG, ROW_TAG, next_field};
 use book_fields::items::{definition_of, number_of, row_of};
 use books::fault::BookFault;
-use books::limits::{MOST_DEFINITIONS, MOST_NUMBERS, MOST_ROWS};
+use books::limits::{Limits, MOST_DEFINITIONS, MOST_NUMBERS, MOST_ROWS};
 use kinds::number::Number;
 use rules::row::Row;
 
@@ -32,15 +32,14 @@ fn add_number<K: Number>(
 fn add_row<K: Number>(
     body: &[u8],
     place: usize,
-    numbers: &[K],
-    patterns: usize,
+    limits: Limits<'_, K>,
     rows: &mut [Row],
     count: usize,
 ) -> Result<usize, BookFault>
-    ensures { Adds (row_from (limits_of K.Number.kind patterns numbers.now) (nat_le (min (length rows.old) 2048) count) count place body.now) count rows.old rows.new result }
+    ensures { Adds (row_from (limits_in K.Number.kind limits.entry) (nat_le (min (length rows.old) 2048) count) count place body.now) count rows.old rows.new result }
 {
     let full = count >= rows.len().min(MOST_ROWS);
-    let row = row_of(body, place, full, count, numbers, patterns)?;
+    let row = row_of(body, place, full, count, limits)?;
     rows[count] = row;
     Ok(count + 1)
 }
@@ -80,8 +79,11 @@ pub(crate) fn fill<K: Number>(
         match field.tag {
             NUMBER_TAG => number_count = add_number(body, at, numbers, number_count)?,
             ROW_TAG => {
-                let before = &numbers[..number_count];
-                row_count = add_row(body, at, before, patterns, rows, row_count)?;
+                let limits = Limits {
+                    numbers: &numbers[..number_count],
+                    patterns,
+                };
+                row_count = add_row(body, at, limits, rows, row_count)?;
             }
             _ => {
                 definition_count = add_definition(

@@ -3,4 +3,5 @@
 
 mod ending;
 mod filling;
+pub mod memory;
 pub mod reading;

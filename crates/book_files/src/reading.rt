@@ -1,13 +1,16 @@
 // Reads a book's file, and seals the book.
 ghost use Rattle.std.specs.Prelude.{◌≡◌, length, replicate};
 ghost use Rattle.rules.specs.declared.row.Row.TheVariants.{False};
-ghost use Rattle.book_files.specs.Drafts.{memory, room_of};
+ghost use Rattle.book_files.specs.Drafts.{SameLent, memory, held, room_of};
 ghost use Rattle.book_files.specs.Files.{Erased, Reads, Granted};
 ghost use Rattle.book_files.specs.Filling.{ReadsWhole};
 
 use crate::ending::test_end;
 use crate::filling::fill;
+use crate::memory::BookMemory;
+use books::draft::Draft;
 use books::fault::BookFault;
+use books::limits::Limits;
 use kinds::number::Number;
 use rules::row::Row;
 
@@ -35,16 +38,15 @@ fn read_whole<K: Number>(
         return Err(BookFault::FileTooLong);
     }
     let counts = fill(bytes, patterns, numbers, rows, definitions)?;
-    let number_count = counts.numbers;
-    let row_count = counts.rows;
-    let definition_count = counts.definitions;
-    test_end(
-        bytes.len(),
-        &rows[..row_count],
-        &definitions[..definition_count],
-        &numbers[..number_count],
+    let draft = Draft {
+        rows: &rows[..counts.rows],
+        definitions: &definitions[..counts.definitions],
+    };
+    let limits = Limits {
+        numbers: &numbers[..counts.numbers],
         patterns,
-    )?;
+    };
+    test_end(bytes.len(), draft, limits)?;
     Ok(counts)
 }
 
@@ -70,13 +72,15 @@ fn erase<K: Number>(numbers: &mut [K], rows: &mut [Row], definitions: &mut [u16]
 pub fn read_book<K: Number>(
     bytes: &[u8],
     patterns: usize,
-    numbers: &mut [K],
-    rows: &mut [Row],
-    definitions: &mut [u16],
+    memory: &mut BookMemory<'_, K>,
 ) -> Result<BookCounts, BookFault>
-    ensures reads { Reads K.Number.kind patterns bytes.now (memory numbers.old rows.old definitions.old) (memory numbers.new rows.new definitions.new) result }
-    ensures granted { Granted K.Number.kind patterns (room_of (memory numbers.old rows.old definitions.old)) bytes.now result }
+    ensures reads { Reads K.Number.kind patterns bytes.now (held memory.old) (held memory.new) result }
+    ensures granted { Granted K.Number.kind patterns (room_of (held memory.old)) bytes.now result }
+    ensures lent { SameLent memory.old memory.new }
 {
+    let numbers = &mut *memory.numbers;
+    let rows = &mut *memory.rows;
+    let definitions = &mut *memory.definitions;
     let read = read_whole(bytes, patterns, numbers, rows, definitions);
     if read.is_err() {
         erase(numbers, rows, definitions);

@@ -1,1 +1,1 @@
-mod Appends
+mod Numbering

@@ -2,5 +2,5 @@
 #![tactic(auto)]
 
 pub mod lines;
-mod tokens;
+mod page;
 mod words;

@@ -1,112 +1,117 @@
-// Puts the lines of a cleared book one after another.
-ghost use Rattle.std.specs.Prelude.{◌≡◌, ◌++◌, IfOk, string_bytes, OnOk};
-ghost use Rattle.book_lines.specs.Lines.{operand_text, row_line, definition_lines, numbered, book_text};
-ghost use Rattle.books.specs.Guard.{book_of};
+// The lines of a cleared book, one after another on a page.
+ghost use Rattle.std.specs.Prelude.{◌≡◌, ◌++◌, IfOk, OnOk, codes, length};
+ghost use Rattle.book_lines.specs.Lines.{bounds_text, operand_text, row_line, definition_line, definition_lines, numbered, book_text};
+ghost use Rattle.book_lines.specs.Pages.{Adds};
+ghost use Rattle.books.specs.Drafts.{drafted};
 
-use crate::tokens::{append, append_bounds, append_number};
-use crate::words::{
-    count_text, counts_line, definition_line, member_text, own_count, range_text, row_head,
-    type_text,
-};
+use crate::page::Page;
+use crate::words::{Ends, operator_word, type_word};
+use books::draft::Draft;
 use kinds::number::Number;
-use rules::row::Row;
+use rules::row::{Bounds, Row};
 use std::alloc::{AllocError, Global};
 
-// Puts a text at the end.
-fn append_string(out: &mut Vec<u8>, text: String) -> Result<(), AllocError>
-    ensures { OnOk result (out.new.items ≡ out.old.items ++ string_bytes text) }
-{
-    append(out, text.as_str())
-}
-
-// Puts what comes after a row's operator at the end.
-fn append_operands<K: Number>(
-    out: &mut Vec<u8>,
-    heap: Global,
-    numbers: &[K],
-    row: Row,
-) -> Result<(), AllocError>
-    ensures { OnOk result (out.new.items ≡ out.old.items ++ operand_text K.Number.kind numbers.now row) }
-{
-    match row {
-        Row::True | Row::False => Ok(()),
-        Row::OfType(of) => append_string(out, type_text(heap, of)?),
-        Row::BooleanIs(value) => append_string(out, format!(in heap; " {value}")?),
-        Row::Pattern(n)
-        | Row::NotPattern(n)
-        | Row::EveryElement(n)
-        | Row::SomeElement(n)
-        | Row::Not(n)
-        | Row::Variable(n) => append_string(out, format!(in heap; " {n}")?),
-        Row::Length(range) | Row::Members(range) => append_string(out, range_text(heap, range)?),
-        Row::Between(bounds) | Row::StrictlyBetween(bounds) => {
-            append_bounds(out, heap, numbers, bounds.lower, bounds.upper)
+impl<K: Number> Page<'_, K> {
+    // Bounds, after a blank.
+    fn write_bounds(&mut self, bounds: Bounds) -> Result<(), AllocError>
+        ensures { OnOk result (Adds self.old self.new (codes " " ++ bounds_text K.Number.kind self.old.numbers.now bounds)) }
+    {
+        match (bounds.lower, bounds.upper) {
+            (Some(lower), Some(upper)) => {
+                self.write_number(" ", lower)?;
+                self.write_number(" and ", upper)
+            }
+            (Some(lower), None) => self.write_number(" from ", lower),
+            (None, Some(upper)) => self.write_number(" up to ", upper),
+            (None, None) => write!(self, " any"),
         }
-        Row::Multiple(q) | Row::NotMultiple(q) => append_number(out, heap, " of ", numbers, q),
-        Row::EveryMember(p, o) => append_string(out, member_text(heap, p, o)?),
-        Row::SomeMember(p, o) => append_string(out, member_text(heap, p, o)?),
-        Row::Count(o, range) => append_string(out, count_text(heap, o, range)?),
-        Row::And(a, b) | Row::Or(a, b) => append_string(out, format!(in heap; " {a}, {b}")?),
     }
-}
 
-// Puts the line of row number r at the end.
-fn append_row<K: Number>(
-    out: &mut Vec<u8>,
-    heap: Global,
-    numbers: &[K],
-    r: usize,
-    row: Row,
-) -> Result<(), AllocError>
-    ensures { OnOk result (out.new.items ≡ out.old.items ++ row_line K.Number.kind numbers.now r row) }
-{
-    append_string(out, row_head(heap, r, row)?)?;
-    append_operands(out, heap, numbers, row)?;
-    append(out, "\n")
-}
-
-// Puts the lines of the rows at the end.
-fn append_rows<K: Number>(
-    out: &mut Vec<u8>,
-    heap: Global,
-    numbers: &[K],
-    rows: &[Row],
-) -> Result<(), AllocError>
-    ensures { OnOk result (out.new.items ≡ out.old.items ++ numbered (row_line K.Number.kind numbers.now) 0 rows.now) }
-{
-    for (r, row) in rows.iter().enumerate() {
-        append_row(out, heap, numbers, r, *row)?;
+    // What comes after a row's operator.
+    fn write_operands(&mut self, row: Row) -> Result<(), AllocError>
+        ensures { OnOk result (Adds self.old self.new (operand_text K.Number.kind self.old.numbers.now row)) }
+    {
+        match row {
+            Row::True | Row::False => Ok(()),
+            Row::OfType(of) => write!(self, " {}", type_word(of)),
+            Row::BooleanIs(value) => write!(self, " {value}"),
+            Row::Pattern(n)
+            | Row::NotPattern(n)
+            | Row::EveryElement(n)
+            | Row::SomeElement(n)
+            | Row::Not(n)
+            | Row::Variable(n) => write!(self, " {n}"),
+            Row::Length(range) | Row::Members(range) => write!(self, " {}", Ends(range)),
+            Row::Between(bounds) | Row::StrictlyBetween(bounds) => self.write_bounds(bounds),
+            Row::Multiple(q) | Row::NotMultiple(q) => self.write_number(" of ", q),
+            Row::EveryMember(p, o) | Row::SomeMember(p, o) => write!(self, " of pattern {p}: {o}"),
+            Row::Count(o, range) => write!(self, " of {o}: {}", Ends(range)),
+            Row::And(a, b) | Row::Or(a, b) => write!(self, " {a}, {b}"),
+        }
     }
-    Ok(())
-}
 
-// Puts the lines of the definitions at the end.
-fn append_definitions(
-    out: &mut Vec<u8>,
-    heap: Global,
-    definitions: &[u16],
-) -> Result<(), AllocError>
-    ensures { OnOk result (out.new.items ≡ out.old.items ++ definition_lines definitions.now) }
-{
-    let own = own_count(definitions.len());
-    for (k, body) in definitions.iter().enumerate() {
-        append_string(out, definition_line(heap, own, k, *body)?)?;
+    // The line of row number r.
+    fn write_row(&mut self, r: usize, row: Row) -> Result<(), AllocError>
+        ensures { OnOk result (Adds self.old self.new (row_line K.Number.kind self.old.numbers.now r row)) }
+    {
+        write!(self, "row {r}: {}", operator_word(row))?;
+        self.write_operands(row)?;
+        writeln!(self)
     }
-    Ok(())
+
+    // The line of definition number k, where the first `own` are the book's own and the others their complements.
+    fn write_definition(&mut self, own: usize, k: usize, body: u16) -> Result<(), AllocError>
+        ensures { OnOk result (Adds self.old self.new (definition_line own k body)) }
+    {
+        match k.checked_sub(own) {
+            None => writeln!(self, "definition {k}: row {body}"),
+            Some(of) => writeln!(self, "definition {k}, complement of {of}: row {body}"),
+        }
+    }
+
+    // A line a row.
+    fn write_rows(&mut self, rows: &[Row]) -> Result<(), AllocError>
+        ensures { OnOk result (Adds self.old self.new (numbered (row_line K.Number.kind self.old.numbers.now) 0 rows.now)) }
+    {
+        for (r, row) in rows.iter().enumerate() {
+            self.write_row(r, *row)?;
+        }
+        Ok(())
+    }
+
+    // A line a definition.
+    fn write_definitions(&mut self, definitions: &[u16]) -> Result<(), AllocError>
+        ensures { OnOk result (Adds self.old self.new (definition_lines definitions.now)) }
+    {
+        let own = definitions.len().div_ceil(2);
+        for (k, body) in definitions.iter().enumerate() {
+            self.write_definition(own, k, *body)?;
+        }
+        Ok(())
+    }
 }
 
 // The lines of a cleared book with these numbers: one a row, one a definition, and the counts.
 pub fn cleared_lines<K: Number>(
     heap: Global,
-    rows: &[Row],
-    definitions: &[u16],
+    draft: Draft<'_>,
     numbers: &[K],
 ) -> Result<Vec<u8>, AllocError>
-    ensures { IfOk result (λ v. v.items ≡ book_text K.Number.kind numbers.now (book_of rows.now definitions.now)) }
+    ensures { IfOk result (λ v. v.items ≡ book_text K.Number.kind numbers.now (drafted draft.entry)) }
 {
-    let mut out = Vec::new(heap);
-    append_rows(&mut out, heap, numbers, rows)?;
-    append_definitions(&mut out, heap, definitions)?;
-    append_string(&mut out, counts_line(heap, rows.len(), definitions.len())?)?;
-    Ok(out)
+    let Draft { rows, definitions } = draft;
+    let mut page = Page {
+        text: Vec::new(heap),
+        numbers,
+        heap,
+    };
+    page.write_rows(rows)?;
+    page.write_definitions(definitions)?;
+    writeln!(
+        page,
+        "{} rows, {} definitions",
+        rows.len(),
+        definitions.len()
+    )?;
+    Ok(page.text)
 }

@@ -1,14 +1,12 @@
 -- The lowest row that needs itself is a variable.
-use Rattle.std.proofs.Common.{◌≡◌, ℕ, zero, suc, ◌+◌, ◌<◌, ◌≤◌, min, Bool, true, false, ◌⊎◌, List, [], ◌∷◌, length, get_or, Some, None, sym, refl, ap, ◌∙◌, subst, inl, inr, ⊎_elim, arith}
+use Rattle.std.proofs.Common.{◌≡◌, ℕ, zero, suc, ◌+◌, ◌<◌, ◌≤◌, min, Bool, true, false, ◌⊎◌, List, [], ◌∷◌, length, get_or, Some, None, Option, sym, refl, ap, ◌∙◌, subst, inl, inr, ⊎_elim, arith}
 use Rattle.std.specs.List.{AllByRecursion}
 use Rattle.std.proofs.lemmas.Bool.{eqb-true, eq-eqb, cases_lt, both_ways}
-use Rattle.std.proofs.lemmas.List.{get_or_default}
-use Rattle.rules.specs.declared.row.Row.{Row}
 use Rattle.rules.specs.declared.row.Row.TheVariants.{False}
 use Rattle.rules.specs.Value.{◌∈◌, first, later}
 use Rattle.rules.specs.Book.{Book, row_at, body_at, Reach, nothing, inner, both, negated, body, reach, named, called, needed, needs, Needs, direct, through, Guarded}
 use Rattle.rules.proofs.Guard.{then, all_in}
-use Rattle.books.specs.Guard.{book_of, Joined, Finds, Reaches, Marked, names, calls, FirstCall, FirstCycle}
+use Rattle.books.specs.Guard.{book_of, Joined, Finds, Reaches, Marked, names, calls, LowestOf, lower_of, FirstCall, FirstCycle}
 
 -- the first step of a chain of needs
 first_step : (book : Book) (r o : ℕ) → Needs book r o → (m : ℕ) × (m ∈ needs book (row_at book r)) × Reaches book m o
@@ -82,70 +80,62 @@ module _ (book : Book) where
     pub variable_below : (s : ℕ) → s < length book.rows → Needs book s s → VariableCycle s
     variable_below s h n = variable_within (suc s) s (omega arith) h n
 
--- the lowest row that is known to need itself, once the variables of d definitions are known
-pub record Best (book : Book) (d lowest : ℕ) : Type 0 where
-  pub most : lowest ≤ length book.rows
-  pub itself : lowest < length book.rows → Needs book lowest lowest
-  pub before : (v s : ℕ) → v < d → s < lowest → calls (row_at book s) v ≡ true → Needs book s s → ⊥
+-- a row is known to need itself, once the variables of d definitions are looked at
+abbrev pub Known : Book → (d s : ℕ) → Type 0
+Known book d s = Needs book s s × ((v : ℕ) × (v < d) × (calls (row_at book s) v ≡ true))
 
-pub none_yet : (book : Book) → Best book 0 (length book.rows)
-none_yet book = record { most = omega arith; itself = λ h. absurd (omega arith); before = λ v s h. absurd (omega arith) }
+-- the lowest one that is known
+abbrev pub Best : Book → ℕ → Option ℕ → Type 0
+Best book d lowest = LowestOf (length book.rows) (Known book d) lowest
+
+pub none_yet : (book : Book) → Best book 0 None
+none_yet book s h known = absurd (omega (arith, known.1.1))
 
 -- a marked variable of a definition needs itself
-pub first_cycle : (book : Book) (v r : ℕ) (marks : List Bool) → Marked book (body_at book v) marks → FirstCall book.rows v marks r → FirstCycle book v r
-first_cycle book v r marks marked call = record {
-  most = call.most;
-  itself = λ h. let f = call.found h in (cycle_marked book r v marks f.1 marked).0 f.0;
-  before = λ s below names_it n. call.before s below ((cycle_marked book s v marks names_it marked).1 n) names_it;
-}
+pub first_cycle : (book : Book) (v : ℕ) (r : Option ℕ) (marks : List Bool) → Marked book (body_at book v) marks → FirstCall book.rows v marks r → FirstCycle book v r
+first_cycle book v None marks marked call = λ s h cycle. call s h ((cycle_marked book s v marks cycle.0 marked).1 cycle.1, cycle.0)
+first_cycle book v (Some r) marks marked call = (
+  call.0,
+  (call.1.1, (cycle_marked book r v marks call.1.1 marked).0 call.1.0),
+  λ s h cycle. call.2 s h ((cycle_marked book s v marks cycle.0 marked).1 cycle.1, cycle.0),
+)
 
--- the variables of one more definition
-pub next_best : (book : Book) (d lowest r : ℕ) → Best book d lowest → FirstCycle book d r → Best book (d + 1) (min lowest r)
-next_best book d lowest r best here = ⊎_elim
-    (λ (lt : lowest < r). let e : min lowest r ≡ lowest = omega arith in rw e (record {
-      most = best.most;
-      itself = best.itself;
-      before = λ v s few below. newer v s few below (omega arith);
-    }))
-    (λ (le : r ≤ lowest). let e : min lowest r ≡ r = omega arith in rw e (record {
-      most = here.most;
-      itself = here.itself;
-      before = λ v s few below. newer v s few (omega arith) below;
-    }))
-    (cases_lt lowest r)
-  where
-    newer : (v s : ℕ) → v < d + 1 → s < lowest → s < r → calls (row_at book s) v ≡ true → Needs book s s → ⊥
-    newer v s few low below names_it n = ⊎_elim
-        (λ (lt : v < d). best.before v s lt low names_it n)
-        (λ (ge : d ≤ v). let e : v ≡ d = omega arith in here.before s below (subst (λ u. calls (row_at book s) u ≡ true) e names_it) n)
-        (cases_lt v d)
+module _ (book : Book) (d : ℕ) where
+  -- what is known with one more definition
+  newer : (s : ℕ) → (Known book d s → ⊥) → ((calls (row_at book s) d ≡ true) × Needs book s s → ⊥) → Known book (d + 1) s → ⊥
+  newer s old here known = ⊎_elim
+      (λ (lt : known.1.0 < d). old (known.0, (known.1.0, lt, known.1.2)))
+      (λ (ge : d ≤ known.1.0). let e : known.1.0 ≡ d = omega (arith, known.1.1) in here (subst (λ u. calls (row_at book s) u ≡ true) e known.1.2, known.0))
+      (cases_lt known.1.0 d)
 
-module _ (book : Book) (joined : Joined book) (d lowest : ℕ) (all : length book.definitions ≤ d) (best : Best book d lowest) where
-  none_below : (s : ℕ) → s < lowest → Needs book s s → ⊥
-  none_below s h n =
-      let c = variable_below book joined s (omega (arith, best.most)) n in
-      best.before c.variable c.row (omega (arith, c.defined)) (omega (arith, c.low)) c.names_it c.itself
+  still : (s : ℕ) → Known book d s → Known book (d + 1) s
+  still s known = (known.0, (known.1.0, omega (arith, known.1.1), known.1.2))
 
-  pub found_lowest : lowest < length book.rows → Finds book (Some lowest)
-  found_lowest h = record { there = h; itself = best.itself h; before = none_below }
+  now : (s : ℕ) → (calls (row_at book s) d ≡ true) × Needs book s s → Known book (d + 1) s
+  now s cycle = (cycle.1, (d, omega arith, cycle.0))
 
-  pub none_found : length book.rows ≤ lowest → Finds book None
-  none_found h = λ r inside n. none_below r (omega arith) n
+  -- the variables of one more definition
+  pub next_best : (lowest r : Option ℕ) → Best book d lowest → FirstCycle book d r → Best book (d + 1) (lower_of lowest r)
+  next_best None None best here = λ s h. newer s (best s h) (here s h)
+  next_best None (Some r) best here = (here.0, now r here.1, λ s h. newer s (best s (omega (arith, here.0))) (here.2 s h))
+  next_best (Some l) None best here = (best.0, still l best.1, λ s h. newer s (best.2 s h) (here s (omega (arith, best.0))))
+  next_best (Some l) (Some r) best here = ⊎_elim
+      (λ (lt : l < r). let e : min l r ≡ l = omega arith in rw e (best.0, still l best.1, λ s h. newer s (best.2 s h) (here.2 s (omega arith))))
+      (λ (le : r ≤ l). let e : min l r ≡ r = omega arith in rw e (here.0, now r here.1, λ s h. newer s (best.2 s (omega arith)) (here.2 s h)))
+      (cases_lt l r)
 
--- a loop that looks for the first call
-module _ (rows : List Row) (v : ℕ) (marks : List Bool) where
-  pub call_found : (r : ℕ) (d : Row) → ((s : ℕ) → s < r → get_or marks s false ≡ true → calls (get_or rows s False) v ≡ true → ⊥) → r < length rows →
-      get_or marks r false ≡ true → calls (get_or rows r d) v ≡ true → FirstCall rows v marks r
-  call_found r d before h m c = record { most = omega arith; found = λ _. (m, subst (λ row. calls row v ≡ true) (get_or_default rows r d False h) c); before = before }
+  -- once all definitions are looked at, it is the lowest row that needs itself
+  module _ (joined : Joined book) (all : length book.definitions ≤ d) where
+    known_below : (s : ℕ) → s < length book.rows → Needs book s s → (t : ℕ) × (t ≤ s) × Known book d t
+    known_below s h n = let c = variable_below book joined s h n in (c.row, c.low, (c.itself, (c.variable, omega (arith, c.defined), c.names_it)))
 
-  pub not_here : (r : ℕ) (d : Row) → ((s : ℕ) → s < r → get_or marks s false ≡ true → calls (get_or rows s False) v ≡ true → ⊥) → r < length rows →
-      (get_or marks r false ≡ true → calls (get_or rows r d) v ≡ true → ⊥) →
-      (s : ℕ) → s < r + 1 → get_or marks s false ≡ true → calls (get_or rows s False) v ≡ true → ⊥
-  not_here r d before h no_call s lt m c = ⊎_elim
-      (λ (lower : s < r). before s lower m c)
-      (λ (le : r ≤ s). let e : s ≡ r = omega arith in
-      no_call (subst (λ k. get_or marks k false ≡ true) e m) (subst (λ row. calls row v ≡ true) (get_or_default rows r False d h) (subst (λ k. calls (get_or rows k False) v ≡ true) e c)))
-      (cases_lt s r)
+    pub finds : (lowest : Option ℕ) → Best book d lowest → Finds book lowest
+    finds None best = λ s h n. let k = known_below s h n in best k.0 (omega (arith, k.1)) k.2
+    finds (Some r) best = record {
+      there = best.0;
+      itself = best.1.0;
+      before = λ s h n. let k = known_below s (omega (arith, best.0)) n in best.2 k.0 (omega (arith, k.1)) k.2;
+    }
 
 -- a book of one row that is false needs nothing
 pub false_guarded : Guarded (book_of (False ∷ []) (0 ∷ []))

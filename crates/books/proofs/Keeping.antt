@@ -5,6 +5,7 @@ use Rattle.std.proofs.lemmas.Bool.{ltb-true, lt-ltb, leb-true, le-leb, eqb-false
 use Rattle.std.specs.Result.{result_and}
 use Rattle.std.specs.List.{AllByRecursion}
 use Rattle.rules.specs.Book.{Book, Limits, Reach, nothing, inner, both, negated, body, reach, called, row_at, body_at, operands, variables, IfThere, Ended, Numbered, Allowed, Guarded, Sealed}
+use Rattle.rules.specs.Types.{is_short}
 use Rattle.rules.specs.declared.row.Bounds.{Bounds}
 use Rattle.rules.specs.declared.row.Range.{Range}
 use Rattle.rules.specs.declared.row.Row.{Row}
@@ -12,7 +13,7 @@ use Rattle.rules.specs.declared.row.Row.TheVariants.{True, False, OfType, Boolea
 use Rattle.books.specs.declared.fault.BookFault.{BookFault}
 use Rattle.books.specs.declared.fault.BookFault.TheVariants.{Unguarded}
 use Rattle.books.specs.Guard.{Joined, Lowest}
-use Rattle.books.specs.Tests.{Tested, passes, ask, short_of, is_ended, is_there, row_fits, row_above, row_test, counted_row, definition_test, call_test, variable_test, first_refused}
+use Rattle.books.specs.Tests.{Tested, passes, ask, is_ended, is_there, row_fits, row_above, row_test, counted_row, definition_test, call_test, variable_test, first_refused}
 use Rattle.books.specs.Sealing.{plain_test, counts, ComesTo, Seals}
 
 pub refused_passes : {X : Type 0} (e : BookFault) → Err e ≡ passes → X
@@ -24,6 +25,10 @@ both_pass (Err e) b h = refused_passes e h
 
 pub pass_both : (a b : Tested) → a ≡ passes → b ≡ passes → result_and a b ≡ passes
 pass_both a b p q = rw p q
+
+-- after a test that passes the next one decides
+pub passes_then : (a b r : Tested) → passes ≡ a → r ≡ b → r ≡ result_and a b
+passes_then a b r p q = rw (← p) q
 
 pub asked : (b : Bool) (e : BookFault) → ask b e ≡ passes → b ≡ true
 asked true e h = refl
@@ -53,21 +58,21 @@ module _ {A : Type 0} (test : ℕ → A → Tested) where
   pub all : (xs : List A) → ((k : ℕ) (d : A) → k < length xs → test k (get_or xs k d) ≡ passes) → first_refused test 0 xs ≡ passes
   all xs h = all_from 0 xs (λ k d lt. subst (λ n. test n (get_or xs k d) ≡ passes) (sym (zero-add k)) (h k d lt))
 
-short_from : (u : Option ℕ) → short_of u ≡ true → IfThere u (λ u. u ≤ 65534)
+short_from : (u : Option ℕ) → is_short u ≡ true → IfThere u (λ u. u ≤ 65534)
 short_from None h = tt
 short_from (Some u) h = let lt = ltb-true u 65535 h in omega arith
 
-short_back : (u : Option ℕ) → IfThere u (λ u. u ≤ 65534) → short_of u ≡ true
+short_back : (u : Option ℕ) → IfThere u (λ u. u ≤ 65534) → is_short u ≡ true
 short_back None h = refl
 short_back (Some u) h = lt-ltb u 65535 (omega arith)
 
 ended_from : (range : Range) → is_ended range ≡ true → Ended range
 ended_from range h =
-    let p = and_parts (leb range.lower 65535) (short_of range.upper) h in
+    let p = and_parts (leb range.lower 65535) (is_short range.upper) h in
     (leb-true range.lower 65535 p.0, short_from range.upper p.1)
 
 ended_back : (range : Range) → Ended range → is_ended range ≡ true
-ended_back range h = and_from (leb range.lower 65535) (short_of range.upper) (le-leb range.lower 65535 h.0) (short_back range.upper h.1)
+ended_back range h = and_from (leb range.lower 65535) (is_short range.upper) (le-leb range.lower 65535 h.0) (short_back range.upper h.1)
 
 there_from : (n : ℕ) (i : Option ℕ) → is_there n i ≡ true → IfThere i (λ i. i < n)
 there_from n None h = tt

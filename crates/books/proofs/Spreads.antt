@@ -8,10 +8,9 @@ use Rattle.std.proofs.lemmas.Bool.{cases_Bool, cases_eq, cases_lt, both_ways}
 use Rattle.rules.specs.Value.{◌∈◌, first, later}
 use Rattle.rules.specs.Book.{Book, row_at, needs, Needs, direct}
 use Rattle.rules.proofs.Guard.{then, closed_holds, all_in, all_each}
-use Rattle.books.specs.declared.guard.Direct.{Direct}
-use Rattle.books.specs.Guard.{Reaches, Marked, Joined, if_there, listed}
+use Rattle.books.specs.Guard.{Reaches, Marked, Joined, if_there}
 use Rattle.books.proofs.Needing.{needs_inside}
-use Rattle.books.specs.Spread.{Work, work, IsMarked, visit, visit_all, pop, top, Room, unmarked, left, Waits, Spreading, EveryRoom, Blank}
+use Rattle.books.specs.Spread.{Work, work, IsMarked, visit, visit_all, pop, top, Room, unmarked, left, Waits, Spreading, EveryRoom, Fresh}
 
 -- a marked row lies within the marks
 marked_inside : (marks : List Bool) (o : ℕ) → get_or marks o false ≡ true → o < length marks
@@ -134,23 +133,27 @@ module _ (book : Book) (start : ℕ) where
           (s.closed m h)
 
   -- the first row is marked, and waits
-  pub started : (marks : List Bool) (stack : List ℕ) → start < length book.rows → Blank book.rows marks stack →
-      Spreading book start [] (visit start (work marks stack 0))
-  started marks stack h blank =
-      let new : get_or marks start false ≡ false = blank.2 start in
-      let inside : start < length marks = omega (arith, blank.0) in
+  pub started : (n : ℕ) (w : Work) → start < length book.rows → length book.rows ≤ n → Fresh n w → Room start w × Spreading book start [] (visit start w)
+  started n w h fits fresh =
+      let marks = w.marks in
+      let stack = w.stack in
+      let new : get_or marks start false ≡ false = fresh.3 start in
+      let inside : start < length marks = omega (arith, fresh.0) in
+      let bottom : 0 < length stack = omega (arith, fresh.1) in
       let few : unmarked marks ≤ length marks = omega (arith, sum_by_le (λ b. cond b 0 1) 1 marks (each_few marks)) in
       let only : (i : ℕ) → get_or (set marks start true) i false ≡ true → i ≡ start =
-      λ i m. ⊎_elim (λ (e : i ≡ start). e) (λ (old : get_or marks i false ≡ true). absurd (both_ways (get_or marks i false) (blank.2 i) old)) (marked_before marks start inside new i m) in
-      let here : get_or (set marks start true) start false ≡ true = marked_here marks start inside new in
-      rw new (record {
-        long = rw length-set blank.0;
-        room = rw length-set (omega (arith, fewer marks start inside new, blank.1));
-        begun = here;
-        within = λ i m. rw (only i m) (h, inl refl);
-        stacked = λ k lt. let zero_k : k ≡ 0 = omega arith in rw (zero_k, get_or-set_same stack 0 start 0 (omega (arith, blank.0, blank.1))) here;
-        closed = λ i m. inl (0, omega arith, get_or-set_same stack 0 start 0 (omega (arith, blank.0, blank.1)) ∙ sym (only i m));
-      })
+      λ i m. ⊎_elim (λ (e : i ≡ start). e) (λ (old : get_or marks i false ≡ true). absurd (both_ways (get_or marks i false) (fresh.3 i) old)) (marked_before marks start inside new i m) in
+      let here : get_or (set marks start true) start false ≡ true = marked_here marks start inside new in (
+        (inside, λ _. rw fresh.2 bottom),
+        rw (new, fresh.2) (record {
+          long = rw length-set (omega (arith, fresh.0));
+          room = rw length-set (omega (arith, fewer marks start inside new, fresh.0, fresh.1));
+          begun = here;
+          within = λ i m. rw (only i m) (h, inl refl);
+          stacked = λ k lt. let zero_k : k ≡ 0 = omega arith in rw (zero_k, get_or-set_same stack 0 start 0 bottom) here;
+          closed = λ i m. inl (0, omega arith, get_or-set_same stack 0 start 0 bottom ∙ sym (only i m));
+        }),
+      )
     where
       each_few : (bs : List Bool) → AllByRecursion (λ b. cond b 0 1 ≤ 1) bs
       each_few [] = tt
@@ -176,20 +179,35 @@ module _ (book : Book) (start : ℕ) where
     pub top_inside : top w < length book.rows
     top_inside = (s.within (top w) (s.stacked (w.height - 1) (omega arith))).0
 
-    module _ (d : Direct) (is : listed d ≡ needs book (row_at book (top w))) where
-      fit : AllByRecursion (λ x. (x < length book.rows) × Reaches book start x) (if_there d.first) × AllByRecursion (λ x. (x < length book.rows) × Reaches book start x) (if_there d.second)
-      fit = halves (λ x. (x < length book.rows) × Reaches book start x) d.first d.second
+    module _ (a b : Option ℕ) (is : if_there a ++ if_there b ≡ needs book (row_at book (top w))) where
+      fit : AllByRecursion (λ x. (x < length book.rows) × Reaches book start x) (if_there a) × AllByRecursion (λ x. (x < length book.rows) × Reaches book start x) (if_there b)
+      fit = halves (λ x. (x < length book.rows) × Reaches book start x) a b
           (subst (AllByRecursion (λ x. (x < length book.rows) × Reaches book start x)) (sym is)
           (all_each (λ x. (x < length book.rows) × Reaches book start x) (needs book (row_at book (top w))) (λ x mem. (
             all_in (λ o. o < length book.rows) (needs book (row_at book (top w))) (needs_inside book joined (top w) top_inside) mem,
             onward (top w) x (s.within (top w) (s.stacked (w.height - 1) (omega arith))).1 mem,
           ))))
 
-      pub one : EveryRoom d.first (pop w) × (Spreading book start (if_there d.second) (visit_all (if_there d.first) (pop w)) × (left (visit_all (if_there d.first) (pop w)) ≡ left (pop w)))
-      one = visits d.first (if_there d.second) (pop w) (subst (λ os. Spreading book start os (pop w)) (sym is) (pop_keeps w s high)) fit.0
+      pub one : EveryRoom a (pop w) × (Spreading book start (if_there b) (visit_all (if_there a) (pop w)) × (left (visit_all (if_there a) (pop w)) ≡ left (pop w)))
+      one = visits a (if_there b) (pop w) (subst (λ os. Spreading book start os (pop w)) (sym is) (pop_keeps w s high)) fit.0
 
-      pub two : (v : Work) → v ≡ visit_all (if_there d.first) (pop w) →
-          EveryRoom d.second v × (Spreading book start [] (visit_all (if_there d.second) v) × (left (visit_all (if_there d.second) v) < left w))
+      pub two : (v : Work) → v ≡ visit_all (if_there a) (pop w) →
+          EveryRoom b v × (Spreading book start [] (visit_all (if_there b) v) × (left (visit_all (if_there b) v) < left w))
       two v e =
-          let t = visits d.second [] v (rw (e, append-nil) one.1.0) fit.1 in
+          let t = visits b [] v (rw (e, append-nil) one.1.0) fit.1 in
           (t.0, (t.1.0, omega (arith, t.1.1, one.1.1, ap left e)))
+
+      -- with both rows visited, the turn is over
+      pub record Turn (popped : Work) : Type 0 where
+        pub first_room : EveryRoom a popped
+        pub second_room : (v : Work) → v ≡ visit_all (if_there a) popped → EveryRoom b v
+        pub keeps : (v u : Work) → v ≡ visit_all (if_there a) popped → u ≡ visit_all (if_there b) v → Spreading book start [] u
+        pub fewer : (v u : Work) → v ≡ visit_all (if_there a) popped → u ≡ visit_all (if_there b) v → left u < left w
+
+      pub turn : (popped : Work) → popped ≡ pop w → Turn popped
+      turn popped e = rw e (record {
+        first_room = one.0;
+        second_room = λ v p. (two v p).0;
+        keeps = λ v u p q. subst (Spreading book start []) (sym q) (two v p).1.0;
+        fewer = λ v u p q. subst (λ u. left u < left w) (sym q) (two v p).1.1;
+      })

@@ -1,10 +1,9 @@
 -- The lowest row that needs itself, and what the search for it rests on.
-use Rattle.std.specs.Prelude.{◌≡◌, ℕ, ◌<◌, ◌≤◌, Bool, true, false, ◌⊎◌, List, [], ◌∷◌, ◌++◌, length, Some, None, Option, ◌==◌, ◌≢◌, slice_index_or}
+use Rattle.std.specs.Prelude.{◌≡◌, ℕ, ◌<◌, ◌≤◌, min, Bool, true, false, ◌⊎◌, List, [], ◌∷◌, ◌++◌, length, Some, None, Option, ◌==◌, slice_index_or}
 use Rattle.std.specs.List.{AllByRecursion}
 use Rattle.rules.specs.Book.{Book, Reach, nothing, inner, both, negated, body, reach, row_at, body_at, operands, variables, Needs, Guarded}
 use Rattle.rules.specs.declared.row.Row.{Row}
 use Rattle.rules.specs.declared.row.Row.TheVariants.{False}
-use Rattle.books.specs.declared.guard.Direct.{Direct}
 
 abbrev pub book_of : List Row → List ℕ → Book
 book_of rows definitions = record { rows = rows; definitions = definitions }
@@ -22,6 +21,17 @@ pub record Lowest (book : Book) (r : ℕ) : Type 0 where
   pub itself : Needs book r r
   pub before : (s : ℕ) → s < r → Needs book s s → ⊥
 
+-- the lowest of n numbers that P holds of, if it holds of one
+abbrev pub LowestOf : ℕ → (ℕ → Type 0) → Option ℕ → Type 0
+LowestOf n P None = (s : ℕ) → s < n → P s → ⊥
+LowestOf n P (Some r) = (r < n) × P r × ((s : ℕ) → s < r → P s → ⊥)
+
+-- the lower of two numbers that may be there
+abbrev pub lower_of : Option ℕ → Option ℕ → Option ℕ
+lower_of None b = b
+lower_of (Some x) None = Some x
+lower_of (Some x) (Some y) = Some (min x y)
+
 -- the lowest row that needs itself, if one does
 abbrev pub Finds : Book → Option ℕ → Type 0
 Finds book None = Guarded book
@@ -32,8 +42,8 @@ abbrev pub if_there : Option ℕ → List ℕ
 if_there None = []
 if_there (Some o) = o ∷ []
 
-abbrev pub listed : Direct → List ℕ
-listed d = if_there d.first ++ if_there d.second
+abbrev pub listed : List (Option ℕ) → List ℕ
+listed two = if_there (slice_index_or two 0 None) ++ if_there (slice_index_or two 1 None)
 
 -- row o is r, or r needs it
 abbrev pub Reaches : Book → ℕ → ℕ → Type 0
@@ -54,14 +64,10 @@ names (body u) v = u == v
 abbrev pub calls : Row → ℕ → Bool
 calls row v = names (reach row) v
 
--- the lowest marked row that names definition v, or else the count of rows
-pub record FirstCall (rows : List Row) (v : ℕ) (marks : List Bool) (r : ℕ) : Type 0 where
-  pub most : r ≤ length rows
-  pub found : r < length rows → (slice_index_or marks r false ≡ true) × (calls (slice_index_or rows r False) v ≡ true)
-  pub before : (s : ℕ) → s < r → slice_index_or marks s false ≡ true → calls (slice_index_or rows s False) v ≢ true
+-- the lowest marked row that names definition v
+abbrev pub FirstCall : List Row → ℕ → List Bool → Option ℕ → Type 0
+FirstCall rows v marks r = LowestOf (length rows) (λ s. (slice_index_or marks s false ≡ true) × (calls (slice_index_or rows s False) v ≡ true)) r
 
--- the lowest row that names definition v and needs itself, or else the count of rows
-pub record FirstCycle (book : Book) (v r : ℕ) : Type 0 where
-  pub most : r ≤ length book.rows
-  pub itself : r < length book.rows → Needs book r r
-  pub before : (s : ℕ) → s < r → calls (row_at book s) v ≡ true → Needs book s s → ⊥
+-- the lowest row that names definition v and needs itself
+abbrev pub FirstCycle : Book → ℕ → Option ℕ → Type 0
+FirstCycle book v r = LowestOf (length book.rows) (λ s. (calls (row_at book s) v ≡ true) × Needs book s s) r

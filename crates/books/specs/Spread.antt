@@ -2,6 +2,7 @@
 use Rattle.std.specs.Prelude.{◌≡◌, ℕ, ◌+◌, ◌-◌, ◌<◌, ◌≤◌, Bool, true, false, cond, ◌⊎◌, List, [], ◌∷◌, length, Some, None, sum_by, Option, slice_index, slice_index_or, slice_set}
 use Rattle.rules.specs.Book.{Book, row_at, needs}
 use Rattle.rules.specs.Value.{◌∈◌}
+use Rattle.books.specs.declared.guard.Search.{Search}
 use Rattle.books.specs.Guard.{Reaches}
 
 pub record Work : Type 0 where
@@ -11,6 +12,10 @@ pub record Work : Type 0 where
 
 abbrev pub work : List Bool → List ℕ → ℕ → Work
 work marks stack height = record { marks = marks; stack = stack; height = height }
+
+-- how far a search has come
+abbrev pub seen : Search → Work
+seen s = work s.marks s.stack s.height
 
 abbrev pub IsMarked : Work → ℕ → Type 0
 IsMarked w o = slice_index_or w.marks o false ≡ true
@@ -60,7 +65,11 @@ pub record Spreading (book : Book) (start : ℕ) (todo : List ℕ) (w : Work) : 
   pub stacked : (k : ℕ) → k < w.height → IsMarked w (slice_index w.stack k)
   pub closed : (i : ℕ) → IsMarked w i → Waits w i ⊎ ((o : ℕ) → o ∈ needs book (row_at book i) → IsMarked w o ⊎ (o ∈ todo))
 
--- no row is marked, and there is room for each on the stack
-abbrev pub Blank : {A : Type 0} → List A → List Bool → List ℕ → Type 0
-Blank rows marks stack =
-    (length rows ≤ length marks) × (length marks ≤ length stack) × ((o : ℕ) → slice_index_or marks o false ≡ false)
+-- no row is marked, and there is room for so many
+abbrev pub Fresh : ℕ → Work → Type 0
+Fresh n w = (length w.marks ≡ n) × (length w.stack ≡ n) × (w.height ≡ 0) × ((o : ℕ) → slice_index_or w.marks o false ≡ false)
+
+-- the uppermost row is taken off, if one waits
+abbrev pub Pops : (before after : Work) → Option ℕ → Type 0
+Pops before after None = (before.height ≡ 0) × (after ≡ before)
+Pops before after (Some r) = (0 < before.height) × (r ≡ top before) × (after ≡ pop before)

@@ -1,20 +1,17 @@
 -- What each row and each definition is tested for, and by which fault it is refused.
-use Rattle.std.specs.Prelude.{ℕ, ◌+◌, Bool, true, cond, ◌&&◌, List, [], ◌∷◌, Some, None, Ok, Err, Option, Result, nat_le, nat_lt}
+use Rattle.std.specs.Prelude.{◌≡◌, ℕ, ◌+◌, ◌<◌, Bool, true, cond, ◌&&◌, List, [], ◌∷◌, length, Some, None, Ok, Err, Option, Result, nat_le, nat_lt}
 use Rattle.std.specs.Result.{result_and}
 use Rattle.rules.specs.Book.{Limits, Reach, nothing, inner, both, negated, body, reach}
+use Rattle.rules.specs.Types.{is_short}
 use Rattle.rules.specs.declared.row.Range.{Range}
 use Rattle.rules.specs.declared.row.Row.{Row}
 use Rattle.rules.specs.declared.row.Row.TheVariants.{True, False, OfType, BooleanIs, Pattern, NotPattern, Length, Between, StrictlyBetween, Multiple, NotMultiple, EveryMember, SomeMember, Members, EveryElement, SomeElement, Count, And, Or, Not, Variable}
 use Rattle.books.specs.declared.fault.BookFault.{BookFault}
 use Rattle.books.specs.declared.fault.BookFault.TheVariants.{NotAllowed, NotAboveZero, Missing, TooMany}
 
--- an upper end is at most 65,534
-abbrev pub short_of : Option ℕ → Bool
-short_of None = true
-short_of (Some u) = nat_lt u 65535
-
+-- one more than the upper end is still an end
 abbrev pub is_ended : Range → Bool
-is_ended range = nat_le range.lower 65535 && short_of range.upper
+is_ended range = nat_le range.lower 65535 && is_short range.upper
 
 -- a bound that is present is one of the numbers
 abbrev pub is_there : ℕ → Option ℕ → Bool
@@ -108,3 +105,11 @@ variable_test definitions place row = call_test definitions place (reach row)
 abbrev pub first_refused : {A : Type 0} → (ℕ → A → Tested) → ℕ → List A → Tested
 first_refused test i [] = passes
 first_refused test i (x ∷ xs) = result_and (test i x) (first_refused test (i + 1) xs)
+
+-- what calls give at numbered items is what this test says
+abbrev pub Agrees : {A : Type 0} → (ℕ → A → Tested → Type 0) → List A → (ℕ → A → Tested) → Type 0
+Agrees {A} gives xs test = (i : ℕ) (x : A) (t : Tested) → i < length xs → gives i x t → t ≡ test i x
+
+-- calls at one item after another, up to the first that is refused
+abbrev pub StopsAtFirst : {A : Type 0} → (ℕ → A → Tested → Type 0) → List A → Tested → Type 0
+StopsAtFirst {A} gives xs r = (test : ℕ → A → Tested) → Agrees gives xs test → r ≡ first_refused test 0 xs

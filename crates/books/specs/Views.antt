@@ -6,7 +6,7 @@ use Rattle.books.specs.declared.book.Book.{Book}
 
 abbrev pub Views : Book → List Row → List ℕ → (numbers patterns : ℕ) → Type 0
 Views b rows definitions numbers patterns =
-    (b.rows.now ≡ rows) × (b.definitions.now ≡ definitions) × (b.numbers ≡ numbers) × (b.patterns ≡ patterns)
+    (b.draft.rows.now ≡ rows) × (b.draft.definitions.now ≡ definitions) × (b.numbers ≡ numbers) × (b.patterns ≡ patterns)
 
 -- the book that accepts nothing: one definition, whose body is a row that is false
 abbrev pub Nothing : Book → Type 0

@@ -1,10 +1,10 @@
 // A sealed book, as a view of the memory that it stands in.
 ghost use Rattle.std.specs.Prelude.{◌≡◌, true, is_ok};
 ghost use Rattle.rules.specs.Book.{Guarded};
-ghost use Rattle.books.specs.Guard.{book_of};
+ghost use Rattle.books.specs.Drafts.{drafted};
 ghost use Rattle.books.specs.Sealing.{plain_test, counts};
 
-use rules::row::Row;
+use crate::draft::Draft;
 
 mod views;
 
@@ -12,10 +12,9 @@ mod views;
 // Its numbers are not held here, so that a view is of one type for all number kinds.
 #[derive(Drop)]
 pub struct Book<'a> {
-    rows: &'a [Row],
-    definitions: &'a [u16],
+    draft: Draft<'a>,
     numbers: usize,
     patterns: usize,
-    ghost passed: { is_ok (plain_test (counts patterns numbers) (book_of rows.now definitions.now)) ≡ true },
-    ghost guarded: { Guarded (book_of rows.now definitions.now) },
+    ghost passed: { is_ok (plain_test (counts patterns numbers) (drafted draft)) ≡ true },
+    ghost guarded: { Guarded (drafted draft) },
 }

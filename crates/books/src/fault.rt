@@ -35,26 +35,22 @@ impl From<NumberFault> for BookFault {
     }
 }
 
-impl BookFault {
-    // The number, place and layer of this fault.
-    pub fn refusal(self) -> Refusal
-        ensures { result ≡ refusal_of self }
-    {
-        let (number, place) = match self {
-            BookFault::FileTooLong => (31, 0),
-            BookFault::UnknownTag(place) => (21, place),
-            BookFault::WrongLength(place) => (22, place),
-            BookFault::NotAllowed(place) => (23, place),
-            BookFault::BadNumber(place, _) => (24, place),
-            BookFault::NotAboveZero(place) => (25, place),
-            BookFault::Missing(place) => (26, place),
-            BookFault::Unguarded(row) => (27, row),
-            BookFault::NoDefinition(place) => (28, place),
-            BookFault::TooMany(place) => (34, place),
-        };
-        let layer = match self {
-            BookFault::BadNumber(_, _) => Layer::Kind,
-            _ => Layer::Book,
+// The number, place and layer of a fault.
+impl From<BookFault> for Refusal {
+    ghost from_gives = { λ f r. r ≡ refusal_of f };
+
+    fn from(fault: BookFault) -> Refusal {
+        let (number, place, layer) = match fault {
+            BookFault::FileTooLong => (31, 0, Layer::Book),
+            BookFault::UnknownTag(place) => (21, place, Layer::Book),
+            BookFault::WrongLength(place) => (22, place, Layer::Book),
+            BookFault::NotAllowed(place) => (23, place, Layer::Book),
+            BookFault::BadNumber(place, _) => (24, place, Layer::Kind),
+            BookFault::NotAboveZero(place) => (25, place, Layer::Book),
+            BookFault::Missing(place) => (26, place, Layer::Book),
+            BookFault::Unguarded(row) => (27, row, Layer::Book),
+            BookFault::NoDefinition(place) => (28, place, Layer::Book),
+            BookFault::TooMany(place) => (34, place, Layer::Book),
         };
         Refusal {
             number,

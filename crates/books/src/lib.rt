@@ -2,6 +2,7 @@
 #![tactic(auto)]
 
 pub mod book;
+pub mod draft;
 pub mod fault;
 mod guard;
 pub mod limits;

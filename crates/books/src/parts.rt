@@ -1,50 +1,39 @@
 // Tests the parts of a book one by one: its rows, its definitions and its variables.
-ghost use Rattle.std.specs.Prelude.{◌≡◌, ◌<◌};
-ghost use Rattle.rules.specs.Book.{number_at, limits_of, operands, variables};
-ghost use Rattle.books.specs.Tests.{is_ended, is_there, row_fits, row_above, row_test, variable_test, definition_test, counted_row, first_refused};
+ghost use Rattle.std.specs.Prelude.{◌≡◌, length};
+ghost use Rattle.books.specs.Drafts.{limits_in};
+ghost use Rattle.rules.specs.Book.{number_at, operands, variables};
+ghost use Rattle.books.specs.Tests.{is_ended, is_there, row_fits, row_above, row_test, variable_test, definition_test, counted_row, ask, StopsAtFirst};
 
 use crate::fault::BookFault;
-use crate::limits::{MOST_DEFINITIONS, MOST_ROWS};
+use crate::limits::{Limits, MOST_DEFINITIONS, MOST_ROWS};
 use kinds::number::Number;
-use rules::row::{Range, Row};
-
-// Whether one more than the upper end is still an end.
-fn is_ended(range: Range) -> bool
-    ensures { result ≡ is_ended range }
-{
-    match range.upper {
-        Some(upper) => upper < 65535,
-        None => true,
-    }
-}
+use rules::row::Row;
 
 // Whether a number of the book is there, or none is asked for.
 fn is_there(index: Option<u16>, numbers: usize) -> bool
     ensures { result ≡ is_there numbers index }
 {
-    match index {
-        Some(i) => usize::from(i) < numbers,
-        None => true,
-    }
+    index.is_none_or(|i| usize::from(i) < numbers)
 }
 
 // Whether a row may have these operands, as row number `at`.
-fn is_allowed(row: Row, at: usize, patterns: usize, numbers: usize) -> bool
-    ensures { result ≡ row_fits patterns numbers at row }
+fn is_allowed<K>(row: Row, at: usize, limits: Limits<'_, K>) -> bool
+    ensures { result ≡ row_fits limits.entry.patterns (length limits.entry.numbers.now) at row }
 {
     match row {
         Row::True | Row::False | Row::OfType(_) | Row::BooleanIs(_) | Row::Variable(_) => true,
-        Row::Pattern(p) | Row::NotPattern(p) => usize::from(p) < patterns,
-        Row::Length(range) | Row::Members(range) => is_ended(range),
+        Row::Pattern(p) | Row::NotPattern(p) => usize::from(p) < limits.patterns,
+        Row::Length(range) | Row::Members(range) => range.is_ended(),
         Row::Between(bounds) | Row::StrictlyBetween(bounds) => {
-            is_there(bounds.lower, numbers) && is_there(bounds.upper, numbers)
+            is_there(bounds.lower, limits.numbers.len())
+                && is_there(bounds.upper, limits.numbers.len())
         }
-        Row::Multiple(q) | Row::NotMultiple(q) => usize::from(q) < numbers,
+        Row::Multiple(q) | Row::NotMultiple(q) => usize::from(q) < limits.numbers.len(),
         Row::EveryMember(p, o) | Row::SomeMember(p, o) => {
-            usize::from(p) < patterns && usize::from(o) < at
+            usize::from(p) < limits.patterns && usize::from(o) < at
         }
         Row::EveryElement(o) | Row::SomeElement(o) | Row::Not(o) => usize::from(o) < at,
-        Row::Count(o, range) => usize::from(o) < at && is_ended(range),
+        Row::Count(o, range) => usize::from(o) < at && range.is_ended(),
         Row::And(a, b) | Row::Or(a, b) => usize::from(a) < at && usize::from(b) < at,
     }
 }
@@ -53,21 +42,27 @@ fn is_allowed(row: Row, at: usize, patterns: usize, numbers: usize) -> bool
 pub fn number_at<K: Number>(numbers: &[K], i: usize) -> K
     ensures { result ≡ number_at K.Number.kind numbers.now i }
 {
-    if i < numbers.len() {
-        numbers[i]
-    } else {
-        K::zero()
-    }
+    numbers.get(i).copied().unwrap_or(K::zero())
 }
 
 // Whether the number that a row takes multiples of is above zero, if it takes any.
-fn is_above_zero<K: Number>(row: Row, numbers: &[K], patterns: usize) -> bool
-    ensures { result ≡ row_above (limits_of K.Number.kind patterns numbers.now) row }
+fn is_above_zero<K: Number>(row: Row, limits: Limits<'_, K>) -> bool
+    ensures { result ≡ row_above (limits_in K.Number.kind limits.entry) row }
 {
     match row {
-        Row::Multiple(q) | Row::NotMultiple(q) => number_at(numbers, usize::from(q)).is_positive(),
+        Row::Multiple(q) | Row::NotMultiple(q) => number_at(
+            limits.numbers,
+            usize::from(q),
+        ).is_positive(),
         _ => true,
     }
+}
+
+// Passes where this holds, and gives the fault where it doesn't.
+pub(crate) fn ensure(holds: bool, fault: BookFault) -> Result<(), BookFault>
+    ensures { result ≡ ask holds fault }
+{
+    holds.then_some(()).ok_or(fault)
 }
 
 // Tests row number `at`, which stands at this place.
@@ -75,18 +70,12 @@ pub fn test_row<K: Number>(
     row: Row,
     at: usize,
     place: usize,
-    numbers: &[K],
-    patterns: usize,
+    limits: Limits<'_, K>,
 ) -> Result<(), BookFault>
-    ensures { result ≡ row_test (limits_of K.Number.kind patterns numbers.now) at place row }
+    ensures { result ≡ row_test (limits_in K.Number.kind limits.entry) at place row }
 {
-    if !is_allowed(row, at, patterns, numbers.len()) {
-        return Err(BookFault::NotAllowed(place));
-    }
-    if !is_above_zero(row, numbers, patterns) {
-        return Err(BookFault::NotAboveZero(place));
-    }
-    Ok(())
+    ensure(is_allowed(row, at, limits), BookFault::NotAllowed(place))?;
+    ensure(is_above_zero(row, limits), BookFault::NotAboveZero(place))
 }
 
 // Tests that the definition that a row calls is there, if it calls any.
@@ -94,69 +83,41 @@ pub fn test_variable(row: Row, definitions: usize, place: usize) -> Result<(), B
     ensures { result ≡ variable_test definitions place row }
 {
     match row {
-        Row::Variable(v) if usize::from(v) >= definitions => Err(BookFault::Missing(place)),
+        Row::Variable(v) => ensure(usize::from(v) < definitions, BookFault::Missing(place)),
         _ => Ok(()),
     }
 }
 
 // Tests row number `at` of rows in memory.
-fn test_counted_row<K: Number>(
+pub(crate) fn test_counted_row<K: Number>(
     row: Row,
     at: usize,
-    numbers: &[K],
-    patterns: usize,
+    limits: Limits<'_, K>,
 ) -> Result<(), BookFault>
-    ensures { result ≡ counted_row (limits_of K.Number.kind patterns numbers.now) at row }
+    ensures { result ≡ counted_row (limits_in K.Number.kind limits.entry) at row }
 {
-    if at >= MOST_ROWS {
-        return Err(BookFault::TooMany(at));
-    }
-    test_row(row, at, at, numbers, patterns)
+    ensure(at < MOST_ROWS, BookFault::TooMany(at))?;
+    test_row(row, at, at, limits)
 }
 
 // Tests definition number k of definitions in memory: its body row is there.
-fn test_definition(body: u16, k: usize, rows: usize) -> Result<(), BookFault>
+pub(crate) fn test_definition(body: u16, k: usize, rows: usize) -> Result<(), BookFault>
     ensures { result ≡ definition_test rows k body }
 {
-    if k >= MOST_DEFINITIONS {
-        return Err(BookFault::TooMany(k));
-    }
-    if usize::from(body) >= rows {
-        return Err(BookFault::Missing(k));
-    }
-    Ok(())
+    ensure(k < MOST_DEFINITIONS, BookFault::TooMany(k))?;
+    ensure(usize::from(body) < rows, BookFault::Missing(k))
 }
 
-// Tests rows, by number.
-pub(crate) fn test_rows<K: Number>(
-    rows: &[Row],
-    numbers: &[K],
-    patterns: usize,
+// Tests items by number, up to the first that is refused.
+pub(crate) fn test_each<T: Copy, F: Fn(usize, T) -> Result<(), BookFault>>(
+    items: &[T],
+    test: F,
 ) -> Result<(), BookFault>
-    ensures { result ≡ first_refused (counted_row (limits_of K.Number.kind patterns numbers.now)) 0 rows.now }
+    requires { F.IsAlwaysCallable test }
+    ensures { StopsAtFirst (F.post test) items.now result }
 {
-    for (at, row) in rows.iter().enumerate() {
-        test_counted_row(*row, at, numbers, patterns)?;
-    }
-    Ok(())
-}
-
-// Tests definitions, by number.
-pub(crate) fn test_definitions(definitions: &[u16], rows: usize) -> Result<(), BookFault>
-    ensures { result ≡ first_refused (definition_test rows) 0 definitions.now }
-{
-    for (k, body) in definitions.iter().enumerate() {
-        test_definition(*body, k, rows)?;
-    }
-    Ok(())
-}
-
-// Tests the variables among rows, by number.
-pub(crate) fn test_variables(rows: &[Row], definitions: usize) -> Result<(), BookFault>
-    ensures { result ≡ first_refused (variable_test definitions) 0 rows.now }
-{
-    for (at, row) in rows.iter().enumerate() {
-        test_variable(*row, definitions, at)?;
+    for (i, item) in items.iter().enumerate() {
+        test(i, *item)?;
     }
     Ok(())
 }

@@ -1,49 +1,43 @@
 // Tests whole books, and seals them.
 ghost use Rattle.std.specs.Prelude.{◌≡◌, ◌<◌};
-ghost use Rattle.rules.specs.Book.{limits_of};
-ghost use Rattle.books.specs.Guard.{book_of};
+ghost use Rattle.books.specs.Drafts.{drafted, limits_in};
 ghost use Rattle.books.specs.Sealing.{plain_test, ComesTo, Only, Seals};
 
+use crate::draft::Draft;
 use crate::fault::BookFault;
 use crate::guard::lowest_cycle;
-use crate::limits::MOST_NUMBERS;
-use crate::parts::{test_definitions, test_rows, test_variables};
+use crate::limits::{Limits, MOST_NUMBERS};
+use crate::parts::{ensure, test_counted_row, test_definition, test_each, test_variable};
 use kinds::number::Number;
-use rules::row::Row;
 
 // Tests the numbers, the rows and the definitions of a book, and that what they name is there.
-fn test_parts<K: Number>(
-    rows: &[Row],
-    definitions: &[u16],
-    numbers: &[K],
-    patterns: usize,
-) -> Result<(), BookFault>
-    ensures { result ≡ plain_test (limits_of K.Number.kind patterns numbers.now) (book_of rows.now definitions.now) }
+fn test_parts<K: Number>(draft: Draft<'_>, limits: Limits<'_, K>) -> Result<(), BookFault>
+    ensures { result ≡ plain_test (limits_in K.Number.kind limits.entry) (drafted draft.entry) }
 {
-    if numbers.len() > MOST_NUMBERS {
-        return Err(BookFault::TooMany(MOST_NUMBERS));
-    }
-    test_rows(rows, numbers, patterns)?;
-    test_definitions(definitions, rows.len())?;
-    if definitions.len() == 0 {
-        return Err(BookFault::NoDefinition(0));
-    }
-    test_variables(rows, definitions.len())
+    ensure(
+        limits.numbers.len() <= MOST_NUMBERS,
+        BookFault::TooMany(MOST_NUMBERS),
+    )?;
+    test_each(draft.rows, |at, row| test_counted_row(row, at, limits))?;
+    test_each(
+        draft.definitions,
+        |k, body| test_definition(body, k, draft.rows.len()),
+    )?;
+    ensure(!draft.definitions.is_empty(), BookFault::NoDefinition(0))?;
+    test_each(
+        draft.rows,
+        |at, row| test_variable(row, draft.definitions.len(), at),
+    )
 }
 
 // Tests whether rows and definitions in memory are a book that can be sealed, with these numbers and for this count of patterns.
-pub fn test_book<K: Number>(
-    rows: &[Row],
-    definitions: &[u16],
-    numbers: &[K],
-    patterns: usize,
-) -> Result<(), BookFault>
-    ensures comes { ComesTo (limits_of K.Number.kind patterns numbers.now) (book_of rows.now definitions.now) result }
-    ensures only { Only (limits_of K.Number.kind patterns numbers.now) (book_of rows.now definitions.now) result }
-    ensures seals { Seals (limits_of K.Number.kind patterns numbers.now) (book_of rows.now definitions.now) result }
+pub fn test_book<K: Number>(draft: Draft<'_>, limits: Limits<'_, K>) -> Result<(), BookFault>
+    ensures comes { ComesTo (limits_in K.Number.kind limits.entry) (drafted draft.entry) result }
+    ensures only { Only (limits_in K.Number.kind limits.entry) (drafted draft.entry) result }
+    ensures seals { Seals (limits_in K.Number.kind limits.entry) (drafted draft.entry) result }
 {
-    test_parts(rows, definitions, numbers, patterns)?;
-    match lowest_cycle(rows, definitions) {
+    test_parts(draft, limits)?;
+    match lowest_cycle(draft) {
         Some(row) => Err(BookFault::Unguarded(row)),
         None => Ok(()),
     }

@@ -1,4 +1,3 @@
-mod Reading
+mod Results
 mod Settling
-mod Fronts
-mod Printing
+mod Handing

@@ -11,7 +11,7 @@ use Rattle.clearing.specs.declared.fault.ClearFault.{ClearFault}
 use Rattle.clearing.specs.declared.fault.ClearFault.TheVariants.{TooManyRows, TooManyDefinitions}
 use Rattle.clear_book.specs.declared.fault.Fault.TheVariants.{Patterns, Book as BookRefused, Clearing}
 use Rattle.clear_book.specs.Files.{Counts, End, shown, Unfit, BookComes, Comes, Settled}
-use Rattle.clear_book.proofs.Reading.{never, same_ok, same_err}
+use Rattle.clear_book.proofs.Results.{never, same_ok, same_err}
 
 -- what fits is not refused, and what is refused is so for one reason
 fit_or_not : (whole memory : Book) (f : ClearFault) → Unfit whole memory f → RowsFit whole memory → DefinitionsFit whole memory → ⊥

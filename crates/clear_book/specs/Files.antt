@@ -1,20 +1,21 @@
 -- What the files `names`, `masks` and `book` come to, and what is printed then.
-use Rattle.std.specs.Prelude.{◌≡◌, ℕ, ◌≤◌, ◌⊎◌, List, length, take, Ok, Err, Result}
+use Rattle.std.specs.Prelude.{◌≡◌, ℕ, ◌⊎◌, List, Ok, Err, Result}
 use Rattle.dialects.specs.Dialects.{pair_count}
-use Rattle.dialects.specs.Files.{Outcome}
+use Rattle.dialects.specs.Files.{Outcome, room as part_room}
 use Rattle.dialects.specs.declared.fault.PatternFault.{PatternFault}
 use Rattle.numbers.specs.Kinds.{Kind}
 use Rattle.rules.specs.Book.{Book}
 use Rattle.rules.specs.Clear.{clear}
-use Rattle.book_files.specs.Drafts.{Draft, Room, numbers, book}
+use Rattle.book_files.specs.Drafts.{Draft, Room, room_of, held, numbers, book}
 use Rattle.book_files.specs.Files.{ComesTo}
-use Rattle.book_files.specs.declared.reading.BookCounts.{BookCounts}
-use Rattle.clearing.specs.Outcomes.{RowsFit, DefinitionsFit, front_book}
+use Rattle.clearing.specs.Outcomes.{RowsFit, DefinitionsFit, memory_of}
 use Rattle.clearing.specs.declared.fault.ClearFault.{ClearFault}
 use Rattle.clearing.specs.declared.fault.ClearFault.TheVariants.{TooManyRows, TooManyDefinitions}
 use Rattle.book_lines.specs.Lines.{book_text}
 use Rattle.clear_book.specs.declared.fault.Fault.{Fault}
 use Rattle.clear_book.specs.declared.fault.Fault.TheVariants.{Patterns, Book as BookRefused, Clearing}
+use Rattle.clear_book.specs.declared.files.Files.{Files}
+use Rattle.clear_book.specs.declared.files.Memory.{Memory}
 use Rattle.clear_book.specs.Faults.{refused_line}
 
 -- how many patterns names and masks have side by side, or the first refusal of the two files
@@ -53,6 +54,11 @@ module _ {K : Type 0} (kind : Kind K) (room : Room) (memory : Book) (file : List
       ((fault : PatternFault) × (end ≡ Err (Patterns fault)) × Counts most names masks (Err fault))
       ⊎ ((p : ℕ) × Counts most names masks (Ok p) × BookComes p end)
 
+-- what the three files come to, with this memory
+abbrev pub FilesCome : {K : Type 0} → Kind K → Files → Memory K → End K → Type 0
+FilesCome kind files memory =
+    Comes kind (room_of (held memory.book)) (memory_of memory.cleared) files.book.now (part_room memory.parts.now) files.names.now files.masks.now
+
 -- it comes to this, and to nothing else
 abbrev pub Settled : {E : Type 0} → (E → Type 0) → E → Type 0
 Settled {E} To end = To end × ((other : E) → To other → other ≡ end)
@@ -67,21 +73,3 @@ pub record Prints {K : Type 0} (kind : Kind K) (To : End K → Type 0) (out : Li
   pub end : End K
   pub settled : Settled To end
   pub printed : out ≡ text kind end
-
--- so many numbers, rows and definitions stand in front of the memories, and they are the cleared book
-pub record Stands {K : Type 0} (s : Shown K) (numbers : List K) (memory : Book) (counts : BookCounts) : Type 0 where
-  pub numbers_there : counts.numbers ≤ length numbers
-  pub rows_there : counts.rows ≤ length memory.rows
-  pub definitions_there : counts.definitions ≤ length memory.definitions
-  pub numbers_are : take counts.numbers numbers ≡ s.numbers
-  pub cleared_is : front_book counts.rows counts.definitions memory ≡ s.cleared
-
-abbrev pub Leaves : {K : Type 0} → End K → List K → Book → Result BookCounts Fault → Type 0
-Leaves (Err fault) numbers memory r = r ≡ Err fault
-Leaves (Ok s) numbers memory r = (counts : BookCounts) × (r ≡ Ok counts) × Stands s numbers memory counts
-
--- the files come to one thing, which is answered and stands in memory
-pub record Ends {K : Type 0} (To : End K → Type 0) (numbers : List K) (memory : Book) (r : Result BookCounts Fault) : Type 0 where
-  pub end : End K
-  pub settled : Settled To end
-  pub leaves : Leaves end numbers memory r

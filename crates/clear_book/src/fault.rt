@@ -40,15 +40,15 @@ impl From<ClearFault> for Fault {
     }
 }
 
-impl Fault {
-    // The number, place and layer of this fault.
-    pub(crate) fn refusal(self) -> Refusal
-        ensures { result ≡ refusal_of self }
-    {
-        match self {
-            Fault::Patterns(fault) => fault.refusal(),
-            Fault::Book(fault) => fault.refusal(),
-            Fault::Clearing(fault) => fault.refusal(),
+// The number, place and layer of a fault.
+impl From<Fault> for Refusal {
+    ghost from_gives = { λ fault r. r ≡ refusal_of fault };
+
+    fn from(fault: Fault) -> Refusal {
+        match fault {
+            Fault::Patterns(fault) => Refusal::from(fault),
+            Fault::Book(fault) => Refusal::from(fault),
+            Fault::Clearing(fault) => Refusal::from(fault),
         }
     }
 }

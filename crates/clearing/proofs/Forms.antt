@@ -1,8 +1,7 @@
 -- Books in the form that clearing gives.
-use Rattle.std.proofs.Common.{◌≡◌, ℕ, zero, suc, ◌+◌, ◌%◌, ◌<◌, ◌≤◌, Bool, true, false, List, [], ◌∷◌, length, get_or, Ok, sym, refl, ap, ◌∙◌, subst, ap₂, ⊎_elim, arith}
-use Rattle.std.specs.List.{AllByRecursion}
-use Rattle.std.proofs.lemmas.List.{get_or_default}
-use Rattle.std.proofs.lemmas.Bool.{cases_lt}
+use Rattle.std.proofs.Common.{◌≡◌, ◌≢◌, ℕ, zero, suc, ◌<◌, ◌≤◌, Bool, true, false, List, [], ◌∷◌, length, get_or, Ok, sym, refl, ap, ◌∙◌, subst, ap₂, arith}
+use Rattle.std.specs.Bool.{MatchBool}
+use Rattle.std.specs.List.{AllByRecursion, AllWithin, HoldsAt}
 use Rattle.rules.specs.declared.row.Row.{Row}
 use Rattle.rules.specs.declared.row.Row.TheVariants.{True, False, Not}
 use Rattle.rules.specs.Book.{Book, row_at, body_at, Limits, limits_of, Allowed, operands, variables, needs, Needs, direct, through, Guarded, Sealed, WithoutNot, Cleared}
@@ -18,21 +17,17 @@ use Rattle.clearing.specs.Cleared.{AcceptsNothing, ViewsClear}
 use Rattle.clearing.proofs.Sealing.{seals}
 use Rattle.clearing.proofs.Viewing.{viewed_sealed}
 
--- none of the first r rows is a `not`
-abbrev pub NoneBefore : List Row → ℕ → Type 0
-NoneBefore rows r = (i : ℕ) → i < r → (o : ℕ) → get_or rows i False ≡ Not o → ⊥
+-- whether a row is no `not`, asked of all rows
+abbrev pub NoNot : Row → Type 0
+NoNot row = (o : ℕ) → row ≢ Not o
 
-module _ (rows : List Row) (r : ℕ) (x : Row) (here : r < length rows) where
-  pub found : (o : ℕ) × (get_or rows r x ≡ Not o) → WithoutNot (book_of rows []) → ⊥
-  found (o, is) none = none r here o (get_or_default rows r False x here ∙ is)
+abbrev pub SomeNot : Row → Type 0
+SomeNot row = (o : ℕ) × (row ≡ Not o)
 
-  pub none_here : NoneBefore rows r → ((o : ℕ) × (get_or rows r x ≡ Not o) → ⊥) → NoneBefore rows (r + 1)
-  none_here before other i l o is = ⊎_elim (λ (below : i < r). before i below o is)
-      (λ (past : r ≤ i). let same : r ≡ i = omega arith in other (o, get_or_default rows r x False here ∙ ap (λ k. get_or rows k False) same ∙ is))
-      (cases_lt i r)
-
-pub none_at_all : (rows : List Row) (r : ℕ) → length rows ≤ r → NoneBefore rows r → WithoutNot (book_of rows [])
-none_at_all rows r past none i l o is = none i (omega arith) o is
+pub told_of_all : (rows : List Row) (b : Bool) → MatchBool b (AllWithin NoNot rows 0 (length rows)) ((k : ℕ) × (k < length rows) × HoldsAt SomeNot rows k) →
+    Told b (WithoutNot (book_of rows []))
+told_of_all rows true all = λ r h. all r False (omega arith) h
+told_of_all rows false (k, h, some) = λ none. none k h (some False).0 (some False).1
 
 -- a sealed book in this form is a cleared one
 pub view_cleared : (view : View) → ClearForm (viewed view) → Cleared (view_limits view) (viewed view)
@@ -42,23 +37,10 @@ view_cleared view form = record { sealed = viewed_sealed view; without_not = for
 pub made_cleared : (c : Made) → Cleared (view_limits c.book) (viewed c.book)
 made_cleared c = view_cleared c.book (c.without, c.even)
 
--- the two tests together
-told : (view : View) (b : Bool) → Told b (ClearForm (viewed view)) → Told b (ClearForm (viewed view)) × Told b (Cleared (view_limits view) (viewed view))
-told view true form = (form, view_cleared view form)
-told view false other = (other, λ cleared. other (cleared.without_not, cleared.even))
-
-even_form : (book : Book) (b : Bool) → WithoutNot book → Told b (length book.definitions % 2 ≡ 0) → Told b (ClearForm book)
-even_form book true none even = (none, even)
-even_form book false none odd = λ form. odd form.1
-
-module _ (view : View) (rows : List Row) (of_rows : rows ≡ view.rows.now) where
-  pub told_even : (definitions : List ℕ) (b : Bool) → definitions ≡ view.definitions.now → WithoutNot (book_of rows []) → Told b (length definitions % 2 ≡ 0) →
-      Told b (ClearForm (viewed view)) × Told b (Cleared (view_limits view) (viewed view))
-  told_even definitions b of_definitions none even =
-      told view b (subst (λ book. Told b (ClearForm book)) (ap₂ book_of of_rows of_definitions) (even_form (book_of rows definitions) b none even))
-
-  pub told_not : (WithoutNot (book_of rows []) → ⊥) → Told false (ClearForm (viewed view)) × Told false (Cleared (view_limits view) (viewed view))
-  told_not some = told view false (λ form. some (subst (λ rows. WithoutNot (book_of rows [])) (sym of_rows) form.0))
+-- a test of the form is one of clearedness
+pub told_cleared : (view : View) (b : Bool) → Told b (ClearForm (viewed view)) → Told b (Cleared (view_limits view) (viewed view))
+told_cleared view true form = view_cleared view form
+told_cleared view false other = λ cleared. other (cleared.without_not, cleared.even)
 
 -- the cleared book that accepts nothing
 abbrev pub nothing : Book

@@ -14,7 +14,8 @@ use Rattle.clearing.specs.declared.fault.ClearFault.TheVariants.{TooManyRows, To
 use Rattle.clearing.specs.Adding.{EndsBelow, upper_end}
 use Rattle.clearing.specs.Counting.{RowsCount}
 use Rattle.clearing.specs.Writing.{written_over, bodies, WrittenRows}
-use Rattle.clearing.specs.Outcomes.{book_of, Clearable, RowsFit, DefinitionsFit, Outcome, Seals, VerdictsKept}
+use Rattle.books.specs.Guard.{book_of}
+use Rattle.clearing.specs.Outcomes.{Clearable, RowsFit, DefinitionsFit, Outcome, Seals, VerdictsKept}
 
 ends_below : (limits : Limits) (row : Row) → Allowed limits row → EndsBelow (upper_end row)
 ends_below limits True h = tt

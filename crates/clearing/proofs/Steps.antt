@@ -1,7 +1,10 @@
 -- One row more of a clearing: what it writes, and how much.
-use Rattle.std.proofs.Common.{◌≡◌, ℕ, zero, suc, ◌+◌, ◌<◌, ◌≤◌, Bool, true, false, ltb, List, length, get_or, take, drop, is_some, Some, None, Option, sym, refl, ap, ◌∙◌, subst, ⊎_elim, arith, length-append, take-append-drop}
+use Rattle.std.proofs.Common.{◌≡◌, ℕ, zero, suc, ◌+◌, ◌<◌, ◌≤◌, Bool, true, false, ltb, List, [], ◌∷◌, ◌*◌, length, get_or, take, drop, is_some, Some, None, Option, IfSome, sym, refl, ap, ◌∙◌, subst, arith, length-append, take-append-drop}
+use Rattle.std.specs.Bool.{MatchBool}
+use Rattle.std.specs.List.{sum_by, AllWithin, HoldsAt}
 use Rattle.std.proofs.lemmas.List.{get_or_default}
-use Rattle.std.proofs.lemmas.Bool.{cases_lt, lt-ltb}
+use Rattle.std.proofs.lemmas.List.Sums.{sum_by-cons}
+use Rattle.std.proofs.lemmas.Bool.{lt-ltb}
 use Rattle.rules.specs.declared.place.Place.{Place}
 use Rattle.rules.specs.declared.row.ValueType.{ValueType}
 use Rattle.rules.specs.declared.row.ValueType.TheVariants.{Number, Text, List as Listed, Object}
@@ -9,10 +12,11 @@ use Rattle.rules.specs.declared.row.Range.{Range}
 use Rattle.rules.specs.declared.row.Bounds.{Bounds}
 use Rattle.rules.specs.declared.row.Row.{Row}
 use Rattle.rules.specs.declared.row.Row.TheVariants.{True, False, OfType, BooleanIs, Pattern, NotPattern, Length, Between, StrictlyBetween, Multiple, NotMultiple, EveryMember, SomeMember, Members, EveryElement, SomeElement, Count, And, Or, Not, Variable}
-use Rattle.rules.specs.Clear.{Clearing, outside, side, below, above, under, over, adds, look_up, clearing, begun}
-use Rattle.rules.proofs.Standing.{split_rows, row_more, written_grows}
+use Rattle.rules.specs.Clear.{Clearing, outside, side, below, above, under, over, adds, look_up, next, clearing, begun}
+use Rattle.rules.proofs.Standing.{split_rows, written_grows}
 use Rattle.clearing.specs.Adding.{Plain}
-use Rattle.clearing.specs.Counting.{sides, range_length, bounds_length, added_length, AllPlain}
+use Rattle.clearing.specs.Counting.{sides, range_length, bounds_length, added_length, AllPlain, RowsCount}
+use Rattle.clearing.specs.Views.{Told}
 
 sides_few : (low high : Bool) → sides low high ≤ 5
 sides_few false false = omega arith
@@ -75,23 +79,39 @@ part_short d rows r =
     ap (clearing d begun) (sym (take-append-drop r rows)) ∙ split_rows d begun (take r rows) (drop r rows) in
     omega (arith, grows d (clearing d begun (take r rows)) (drop r rows), ap (λ c. length c.written) whole)
 
-pub count_more : (d : ℕ) (rows : List Row) (r count n : ℕ) (x : Row) → r < length rows →
-    count ≡ length (clearing d begun (take r rows)).written → n ≡ added_length (get_or rows r x) →
-    (count + n ≡ length (clearing d begun (take (r + 1) rows)).written) × (n ≤ 5)
-count_more d rows r count n x h counted new =
-    let c = clearing d begun (take r rows) in
-    let rows_new = (adds (look_up c.places) d (length c.written) (get_or rows r x)).rows in
-    let long = adds_length (look_up c.places) d (length c.written) (get_or rows r x) in
-    (omega (arith, ap (λ c. length c.written) (row_more d rows r x h), length-append c.written rows_new, long.0), omega (arith, long.1))
-
-pub plain_more : (d : ℕ) (rows : List Row) (r : ℕ) (x : Row) → r < length rows →
-    ((i : ℕ) → i < r → Plain d (get_or rows i False)) → Plain d (get_or rows r x) → (i : ℕ) → i < r + 1 → Plain d (get_or rows i False)
-plain_more d rows r x h before here i l = ⊎_elim (before i)
-    (λ past. let same : r ≡ i = omega arith in subst (λ k. Plain d (get_or rows k False)) same (subst (Plain d) (get_or_default rows r x False h) here))
-    (cases_lt i r)
-
 pub plain_at : (d : ℕ) (rows : List Row) (r : ℕ) (x : Row) → r < length rows → AllPlain d rows → Plain d (get_or rows r x)
 plain_at d rows r x h all = subst (Plain d) (get_or_default rows r False x h) (all.1 r h)
 
-pub stopped : (d : ℕ) (rows : List Row) (r : ℕ) (x : Row) → r < length rows → (Plain d (get_or rows r x) → ⊥) → AllPlain d rows → ⊥
-stopped d rows r x h not_plain all = not_plain (plain_at d rows r x h all)
+-- the rows that are added, all in all
+pub written_length : (d : ℕ) (c : Clearing) (rows : List Row) → length (clearing d c rows).written ≡ length c.written + sum_by added_length rows
+written_length d c [] = omega arith
+written_length d c (row ∷ rows) =
+    let new = adds (look_up c.places) d (length c.written) row in
+    omega (
+      arith,
+      written_length d (next d c row) rows,
+      length-append c.written new.rows,
+      (adds_length (look_up c.places) d (length c.written) row).0,
+      sum_by-cons added_length row rows,
+    )
+
+pub counts_few : (rows : List Row) → sum_by added_length rows ≤ 5 * length rows
+counts_few [] = omega arith
+counts_few (row ∷ rows) = omega (arith, counts_few rows, (adds_length (look_up []) 0 0 row).1, sum_by-cons added_length row rows)
+
+-- whether the complement of a row can be written down, asked of all rows
+abbrev pub NotPlain : ℕ → Row → Type 0
+NotPlain d row = Plain d row → ⊥
+
+pub told_of_each : (d : ℕ) (rows : List Row) (b : Bool) → length rows ≤ 2048 →
+    MatchBool b (AllWithin (Plain d) rows 0 (length rows)) ((k : ℕ) × (k < length rows) × HoldsAt (NotPlain d) rows k) → Told b (AllPlain d rows)
+told_of_each d rows true few all = (few, λ r h. all r False (omega arith) h)
+told_of_each d rows false few (k, h, not_plain) = λ plain. not_plain False (plain.1 k h)
+
+-- plain rows are counted, and no others
+pub counted : (d : ℕ) (rows : List Row) (plain : Bool) (r : Option ℕ) → Told plain (AllPlain d rows) → is_some r ≡ plain →
+    IfSome r (λ n. n ≡ 8 + sum_by added_length rows) → RowsCount d rows r
+counted d rows true None told e n = cc
+counted d rows false None told e n = told
+counted d rows true (Some n) told e is = (told, omega (arith, written_length d begun rows, is))
+counted d rows false (Some n) told e is = cc

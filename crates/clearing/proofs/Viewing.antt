@@ -28,7 +28,7 @@ makes limits book before after (Err e) o = tt
 
 -- what clearing the parts of a view comes to is so of the view
 module _ (view : View) (rows : List Row) (definitions : List ℕ) (before after : Book) (r : Result ℕ ClearFault)
-    (of_rows : rows ≡ view.rows.now) (of_definitions : definitions ≡ view.definitions.now) where
+    (of_rows : rows ≡ view.draft.rows.now) (of_definitions : definitions ≡ view.draft.definitions.now) where
   pub view_outcome : Outcome (book_of rows definitions) before after r → ViewOutcome (viewed view) before after r
   view_outcome o = fits_or_not (view_limits view) (viewed view) before after r (viewed_sealed view)
       (subst (λ book. Outcome book before after r) (ap₂ book_of of_rows of_definitions) o)

@@ -1,5 +1,5 @@
 -- What has been written of a cleared book.
-use Rattle.std.proofs.Common.{◌≡◌, ℕ, ◌+◌, ◌-◌, ◌<◌, ◌≤◌, List, [], ◌∷◌, ◌++◌, map, length, get_or, take, drop, set, sym, refl, ap, ◌∙◌, ap₂, add-one, arith, length-append, length-drop, take-suc-set}
+use Rattle.std.proofs.Common.{◌≡◌, ℕ, ◌+◌, ◌-◌, ◌<◌, ◌≤◌, List, [], ◌∷◌, ◌++◌, map, length, get_or, take, drop, set, sym, refl, ap, ◌∙◌, ap₂, add-one, arith, length-append, take-suc-set}
 use lib.Seq.{paste}
 use Rattle.std.proofs.lemmas.List.{get_or-map, length-map, drop-drop, drop_at}
 use Rattle.std.proofs.lemmas.List.Edits.{paste_more, paste_all, paste-paste}
@@ -14,9 +14,6 @@ module _ {A : Type 0} (E : List A) where
   pub over_all : (s : List A) (n : ℕ) → n ≡ length s → paste E 0 s n ≡ written_over s E
   over_all s n e = let same : 0 + n ≡ length s = omega arith in paste_all E 0 s n e ∙ ap (λ k. s ++ drop k E) same
 
-  pub over_long : (s : List A) → length s ≤ length E → length (written_over s E) ≡ length E
-  over_long s h = omega (arith, length-append s (drop (length s) E), length-drop (length s) E)
-
   -- what was written before, and is written over again, doesn't matter
   pub over_front : (out a s : List A) → out ≡ paste E 0 a (length a) → length a ≤ length s → written_over s out ≡ written_over s E
   over_front out a s e h =
@@ -29,24 +26,13 @@ module _ {A : Type 0} (E : List A) where
       ∙ ap (λ k. drop k E) (sym on))
 
 -- one definition more
-pub half_more : (E out : List ℕ) (at k : ℕ) (f : ℕ → ℕ) (definitions : List ℕ) (v x : ℕ) → k < length definitions → at + length definitions ≤ length E →
-    out ≡ paste E at (map f definitions) k → v ≡ f (get_or definitions k x) → set out (at + k) v ≡ paste E at (map f definitions) (k + 1)
-half_more E out at k f definitions v x h room e is =
-    ap₂ (λ o w. set o (at + k) w) e (is ∙ sym (get_or-map f definitions k x 0 h))
-    ∙ paste_more E at (map f definitions) k 0 (omega arith) (omega (arith, length-map definitions f))
-
--- both halves of the definitions
-pub halves : (E out after : List ℕ) (f g : ℕ → ℕ) (definitions : List ℕ) → out ≡ paste E 0 (map f definitions) (length definitions) →
-    after ≡ paste out (length definitions) (map g definitions) (length definitions) → after ≡ written_over (map f definitions ++ map g definitions) E
-halves E out after f g definitions first second =
-    let d = length definitions in
-    let same : d ≡ 0 + d = omega arith in
-    let long = length-map definitions f in
-    second
-    ∙ ap₂ (λ o k. paste o k (map g definitions) d) first same
-    ∙ paste-paste E 0 (map f definitions) (map g definitions) d d (sym long) (sym (length-map definitions g)) (omega arith)
-    ∙ over_all E (map f definitions ++ map g definitions) (d + d)
-    (omega (arith, length-append (map f definitions) (map g definitions), length-map definitions f, length-map definitions g))
+pub body_more : (E out : List ℕ) (k : ℕ) (f : ℕ → ℕ) (definitions : List ℕ) (v x : ℕ) → k < length definitions → length definitions ≤ length E →
+    out ≡ paste E 0 (map f definitions) k → v ≡ f (get_or definitions k x) → set out k v ≡ paste E 0 (map f definitions) (k + 1)
+body_more E out k f definitions v x h room e is =
+    let at : k ≡ 0 + k = omega arith in
+    ap₂ (λ o w. set o k w) e (is ∙ sym (get_or-map f definitions k x 0 h))
+    ∙ ap (λ j. set (paste E 0 (map f definitions) k) j (get_or (map f definitions) k 0)) at
+    ∙ paste_more E 0 (map f definitions) k 0 (omega arith) (omega (arith, length-map definitions f))
 
 -- one row more
 module _ (d : ℕ) (rows : List Row) (r count : ℕ) (places : List Place) (new : Added)

@@ -1,20 +1,14 @@
 -- What a row adds, as the code has it.
-use Rattle.std.specs.Prelude.{ℕ, ◌<◌, ◌≤◌, take, None, Option}
+use Rattle.std.specs.Prelude.{◌≡◌, ℕ, ◌<◌, ◌≤◌, List, [], None, Option}
 use Rattle.std.specs.List.{AllByRecursion}
 use Rattle.rules.specs.declared.place.Place.{Place}
-use Rattle.rules.specs.declared.row.Range.{Range}
-use Rattle.rules.specs.declared.row.Bounds.{Bounds}
-use Rattle.rules.specs.declared.row.ValueType.{ValueType}
-use Rattle.rules.specs.declared.row.ValueType.TheVariants.{Text, Object, List as Listed}
 use Rattle.rules.specs.declared.row.Row.{Row}
-use Rattle.rules.specs.declared.row.Row.TheVariants.{True, False, OfType, BooleanIs, Pattern, NotPattern, Length, Between, StrictlyBetween, Multiple, NotMultiple, EveryMember, SomeMember, Members as MembersRow, EveryElement, SomeElement, Count, And, Or, Not, Variable}
+use Rattle.rules.specs.declared.row.Row.TheVariants.{True, False, OfType, BooleanIs, Pattern, NotPattern, Length, Between, StrictlyBetween, Multiple, NotMultiple, EveryMember, SomeMember, Members, EveryElement, SomeElement, Count, And, Or, Not, Variable}
 use Rattle.rules.specs.Book.{IfThere, variables}
 use Rattle.rules.specs.Clear as clear
 use Rattle.clearing.specs.declared.added.Added.{Added}
-use Rattle.clearing.specs.declared.complements.Comparison.{Comparison}
-use Rattle.clearing.specs.declared.complements.Comparison.TheVariants.{Loose, Strict}
-use Rattle.clearing.specs.declared.complements.Measure.{Measure}
-use Rattle.clearing.specs.declared.complements.Measure.TheVariants.{Bytes, Members, Elements}
+use Rattle.clearing.specs.declared.added.NewRows.{NewRows}
+use Rattle.clearing.specs.declared.added.NewRows.TheVariants.{None as NoRows, One, Two, Three, Four, Five}
 
 -- one more than an upper end is still an end
 abbrev pub EndsBelow : Option ℕ → Type 0
@@ -35,7 +29,7 @@ upper_end (Multiple q) = None
 upper_end (NotMultiple q) = None
 upper_end (EveryMember p o) = None
 upper_end (SomeMember p o) = None
-upper_end (MembersRow range) = range.upper
+upper_end (Members range) = range.upper
 upper_end (EveryElement o) = None
 upper_end (SomeElement o) = None
 upper_end (Count o range) = range.upper
@@ -51,23 +45,18 @@ Plain d row = EndsBelow (upper_end row) × AllByRecursion (λ v. v < d) (variabl
 abbrev pub nowhere : Place
 nowhere = clear.place 0 0
 
+-- the rows that are added, as a list
+abbrev pub rows_of : NewRows → List Row
+rows_of NoRows = []
+rows_of (One rows) = rows
+rows_of (Two rows) = rows
+rows_of (Three rows) = rows
+rows_of (Four rows) = rows
+rows_of (Five rows) = rows
+
 abbrev pub listed : Added → clear.Added
-listed new = record { rows = take new.count new.rows; stands = new.stands }
+listed new = record { rows = rows_of new.rows; stands = new.stands }
 
-abbrev pub measured : Measure → Range → Row
-measured Bytes range = Length range
-measured Members range = MembersRow range
-measured (Elements o) range = Count o range
-
-abbrev pub measured_type : Measure → ValueType
-measured_type Bytes = Text
-measured_type Members = Object
-measured_type (Elements o) = Listed
-
-abbrev pub compared : Comparison → Bounds → Row
-compared Loose bounds = Between bounds
-compared Strict bounds = StrictlyBetween bounds
-
-abbrev pub turned_comparison : Comparison → Comparison
-turned_comparison Loose = Strict
-turned_comparison Strict = Loose
+-- whatever a closure answers is what this function gives
+abbrev pub Gives : {A B : Type 0} → (A → B → Type 0) → (A → B) → Type 0
+Gives {A = A} {B = B} answers f = (x : A) (y : B) → answers x y → y ≡ f x

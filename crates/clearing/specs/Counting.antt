@@ -5,7 +5,7 @@ use Rattle.rules.specs.declared.row.Bounds.{Bounds}
 use Rattle.rules.specs.declared.row.Row.{Row}
 use Rattle.rules.specs.declared.row.Row.TheVariants.{True, False, OfType, BooleanIs, Pattern, NotPattern, Length, Between, StrictlyBetween, Multiple, NotMultiple, EveryMember, SomeMember, Members, EveryElement, SomeElement, Count, And, Or, Not, Variable}
 use Rattle.rules.specs.Clear.{clearing, begun}
-use Rattle.clearing.specs.Adding.{EndsBelow, Plain}
+use Rattle.clearing.specs.Adding.{Plain}
 
 -- a row with these sides
 abbrev pub sides : Bool → Bool → ℕ
@@ -43,19 +43,11 @@ added_length (Or a b) = 2
 added_length (Not o) = 0
 added_length (Variable v) = 2
 
--- what is answered for a range, for a row, and for all rows of a book of d definitions
-abbrev pub RangeCount : Range → Option ℕ → Type 0
-RangeCount range None = EndsBelow range.upper → ⊥
-RangeCount range (Some n) = EndsBelow range.upper × (n ≡ range_length range)
-
-abbrev pub RowCount : ℕ → Row → Option ℕ → Type 0
-RowCount d row None = Plain d row → ⊥
-RowCount d row (Some n) = Plain d row × (n ≡ added_length row)
-
 -- not too many rows, and each can be cleared
 abbrev pub AllPlain : ℕ → List Row → Type 0
 AllPlain d rows = (length rows ≤ 2048) × ((r : ℕ) → r < length rows → Plain d (slice_index_or rows r False))
 
+-- what is answered for all rows of a book of d definitions
 abbrev pub RowsCount : ℕ → List Row → Option ℕ → Type 0
 RowsCount d rows None = AllPlain d rows → ⊥
 RowsCount d rows (Some n) = AllPlain d rows × (n ≡ length (clearing d begun rows).written)

@@ -1,19 +1,25 @@
 -- What clearing answers, and what it leaves in memory.
-use Rattle.std.specs.Prelude.{◌≡◌, ℕ, ◌+◌, ◌*◌, ◌<◌, ◌≤◌, not, List, length, take, Ok, Err, Result}
+use Rattle.std.specs.Prelude.{◌≡◌, ℕ, ◌+◌, ◌*◌, ◌<◌, ◌≤◌, not, length, take, Ok, Err, Result}
 use Rattle.numbers.specs.Kinds.{Turns}
-use Rattle.rules.specs.declared.row.Row.{Row}
 use Rattle.rules.specs.Book.{Book, body_at, Limits, Sealed, Cleared}
 use Rattle.rules.specs.Value.{PartsAfter}
 use Rattle.rules.specs.Meaning.{World, Verdicts, Lawful}
 use Rattle.rules.specs.Clear.{clear}
+use Rattle.books.specs.Guard.{book_of}
 use Rattle.clearing.specs.declared.fault.ClearFault.{ClearFault}
 use Rattle.clearing.specs.declared.fault.ClearFault.TheVariants.{TooManyRows, TooManyDefinitions}
+use Rattle.clearing.specs.declared.memory.ClearedMemory.{ClearedMemory}
 use Rattle.clearing.specs.Counting.{AllPlain}
 use Rattle.clearing.specs.Writing.{written_over}
 
--- a book, and just so the memory for one
-abbrev pub book_of : List Row → List ℕ → Book
-book_of rows definitions = record { rows = rows; definitions = definitions }
+-- what stands in memory for a book, as a book
+abbrev pub memory_of : ClearedMemory → Book
+memory_of memory = book_of memory.rows.now memory.definitions.now
+
+-- the same memory is lent as before
+pub record SameLent (before after : ClearedMemory) : Type 0 where
+  pub rows : after.rows.ghost_name ≡ before.rows.ghost_name
+  pub definitions : after.definitions.ghost_name ≡ before.definitions.ghost_name
 
 -- a book whose complements can be written down, as those of each sealed book can
 abbrev pub Clearable : Book → Type 0

@@ -2,11 +2,11 @@
 use Rattle.std.specs.Prelude.{◌≡◌, ◌%◌, Bool, true, false, length}
 use Rattle.rules.specs.Book.{Book, Limits, WithoutNot}
 use Rattle.books.specs.declared.book.Book.{Book as View}
-use Rattle.books.specs.Guard.{book_of}
+use Rattle.books.specs.Drafts.{drafted}
 use Rattle.books.specs.Sealing.{counts}
 
 abbrev pub viewed : View → Book
-viewed view = book_of view.rows.now view.definitions.now
+viewed view = drafted view.draft
 
 -- what it is sealed for
 abbrev pub view_limits : View → Limits

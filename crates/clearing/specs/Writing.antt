@@ -4,16 +4,10 @@ use Rattle.rules.specs.declared.place.Place.{Place}
 use Rattle.rules.specs.declared.row.Row.{Row}
 use Rattle.rules.specs.Clear.{look_up, clearing, begun}
 use Rattle.clearing.specs.Counting.{AllPlain}
-use Rattle.clearing.specs.declared.writing.Half.{Half}
-use Rattle.clearing.specs.declared.writing.Half.TheVariants.{Bodies, Complements}
 
 -- a memory whose front part is written over
 abbrev pub written_over : {A : Type 0} → List A → List A → List A
 written_over new before = new ++ drop (length new) before
-
-abbrev pub half_row : Half → Place → ℕ
-half_row Bodies place = place.positive
-half_row Complements place = place.negative
 
 -- the bodies of the cleared definitions, by the places of the rows
 abbrev pub bodies : List Place → List ℕ → List ℕ

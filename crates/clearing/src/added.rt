@@ -1,15 +1,52 @@
-// The rows that a row adds to the cleared book.
-ghost use Rattle.std.specs.Prelude.{◌≡◌, ◌≤◌, length};
+// What a row adds to the cleared book.
+ghost use Rattle.std.specs.Prelude.{◌≡◌};
+ghost use Rattle.rules.specs.Clear.{added as added_rows};
+ghost use Rattle.clearing.specs.Adding.{rows_of, listed};
 
 use rules::place::Place;
 use rules::row::Row;
 
-// The first `count` of the rows are added; `stands` is the place of the row that they are added for.
+// The rows that are added.
 #[derive(Clone, Copy)]
-pub struct Added {
-    pub rows: [Row; 5],
-    pub count: usize,
-    pub stands: Place,
-    ghost whole: { length rows ≡ 5 },
-    ghost few: { count ≤ 5 },
+pub(crate) enum NewRows {
+    None,
+    One([Row; 1]),
+    Two([Row; 2]),
+    Three([Row; 3]),
+    Four([Row; 4]),
+    Five([Row; 5]),
+}
+
+impl NewRows {
+    pub(crate) fn as_slice(&self) -> &[Row]
+        ensures { result.now ≡ rows_of self.now }
+    {
+        match self {
+            NewRows::None => &[],
+            NewRows::One(rows) => rows,
+            NewRows::Two(rows) => rows,
+            NewRows::Three(rows) => rows,
+            NewRows::Four(rows) => rows,
+            NewRows::Five(rows) => rows,
+        }
+    }
+}
+
+// The rows, and the place of the row that they are added for.
+#[derive(Clone, Copy)]
+pub(crate) struct Added {
+    pub(crate) rows: NewRows,
+    pub(crate) stands: Place,
+}
+
+impl Added {
+    // Rows that are added for a row which then stands at `positive`, and its complement at `negative`.
+    pub(crate) fn new(rows: NewRows, positive: u16, negative: u16) -> Added
+        ensures { listed result ≡ added_rows (rows_of rows) positive negative }
+    {
+        Added {
+            rows,
+            stands: Place { positive, negative },
+        }
+    }
 }

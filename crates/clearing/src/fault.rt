@@ -11,12 +11,12 @@ pub enum ClearFault {
     TooManyDefinitions,
 }
 
-impl ClearFault {
-    // The number, place and layer of this fault.
-    pub fn refusal(self) -> Refusal
-        ensures { result ≡ refusal_of self }
-    {
-        let number = match self {
+// The number, place and layer of a fault.
+impl From<ClearFault> for Refusal {
+    ghost from_gives = { λ fault r. r ≡ refusal_of fault };
+
+    fn from(fault: ClearFault) -> Refusal {
+        let number = match fault {
             ClearFault::TooManyRows => 35,
             ClearFault::TooManyDefinitions => 36,
         };

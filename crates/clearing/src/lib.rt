@@ -2,7 +2,8 @@
 #![tactic(auto)]
 
 ghost use Rattle.std.specs.Prelude.{◌≡◌, min, nat_le};
-ghost use Rattle.clearing.specs.Outcomes.{book_of, Outcome, Seals};
+ghost use Rattle.books.specs.Drafts.{drafted};
+ghost use Rattle.clearing.specs.Outcomes.{memory_of, SameLent, Outcome, Seals};
 
 mod added;
 mod adding;
@@ -10,25 +11,20 @@ pub mod cleared;
 mod complements;
 mod counting;
 pub mod fault;
+mod fixed;
 pub mod form;
+pub mod memory;
 pub mod sealed;
 pub mod theorems;
 mod writing;
 
-use crate::counting::{MOST_ROWS, cleared_count};
+use crate::counting::cleared_count;
 use crate::fault::ClearFault;
+use crate::memory::ClearedMemory;
 use crate::writing::{write_bodies, write_rows};
+use books::draft::Draft;
+use books::limits::{MOST_DEFINITIONS, MOST_ROWS};
 use rules::place::Place;
-use rules::row::Row;
-
-// A book has at most so many definitions.
-const MOST_DEFINITIONS: usize = 128;
-
-// What the table of places holds before a row is read.
-const NOWHERE: Place = Place {
-    positive: 0,
-    negative: 0,
-};
 
 // Whether so many fit into the memory, and within the most that there may be.
 fn fits(count: usize, memory: usize, most: usize) -> bool
@@ -37,29 +33,27 @@ fn fits(count: usize, memory: usize, most: usize) -> bool
     count <= memory.min(most)
 }
 
-// Writes the cleared book over the front of the memories, and answers its count of rows. The numbers stay as they are.
+// Writes the cleared book over the front of the memory, and answers its count of rows. The numbers stay as they are.
 // Rows that no sealed book has are refused as too many.
-pub fn clear(
-    rows: &[Row],
-    definitions: &[u16],
-    out_rows: &mut [Row],
-    out_definitions: &mut [u16],
-) -> Result<usize, ClearFault>
-    ensures outcome { Outcome (book_of rows.now definitions.now) (book_of out_rows.old out_definitions.old) (book_of out_rows.new out_definitions.new) result }
-    ensures sealed { Seals (book_of rows.now definitions.now) (book_of out_rows.old out_definitions.old) (book_of out_rows.new out_definitions.new) result }
+pub fn clear(draft: Draft<'_>, out: &mut ClearedMemory<'_>) -> Result<usize, ClearFault>
+    ensures outcome { Outcome (drafted draft.entry) (memory_of out.old) (memory_of out.new) result }
+    ensures sealed { Seals (drafted draft.entry) (memory_of out.old) (memory_of out.new) result }
+    ensures lent { SameLent out.old out.new }
 {
-    let d = definitions.len();
-    let Some(count) = cleared_count(rows, d) else {
-        return Err(ClearFault::TooManyRows);
-    };
-    if !fits(count, out_rows.len(), MOST_ROWS) {
+    let d = draft.definitions.len();
+    let count = cleared_count(draft.rows, d).ok_or(ClearFault::TooManyRows)?;
+    if !fits(count, out.rows.len(), MOST_ROWS) {
         return Err(ClearFault::TooManyRows);
     }
-    if !fits(d, out_definitions.len() / 2, MOST_DEFINITIONS / 2) {
+    if !fits(d, out.definitions.len() / 2, MOST_DEFINITIONS / 2) {
         return Err(ClearFault::TooManyDefinitions);
     }
-    let mut places = [NOWHERE; MOST_ROWS];
-    write_rows(rows, d as u16, out_rows, &mut places);
-    write_bodies(definitions, &places[..rows.len()], out_definitions);
+    let mut places = [Place::default(); MOST_ROWS];
+    write_rows(draft.rows, d as u16, out.rows, &mut places);
+    write_bodies(
+        draft.definitions,
+        &places[..draft.rows.len()],
+        out.definitions,
+    );
     Ok(count)
 }

@@ -2,30 +2,13 @@
 ghost use Rattle.std.specs.Prelude.{◌≡◌, ◌+◌, ◌≤◌, map, length};
 ghost use Rattle.std.proofs.Math.Seq.{paste};
 ghost use Rattle.rules.specs.Clear.{look_up};
-ghost use Rattle.clearing.specs.Writing.{half_row, bodies, written_over, Writable, WrittenRows};
+ghost use Rattle.clearing.specs.Writing.{bodies, written_over, Writable, WrittenRows};
 
 use crate::adding::{adds, place_of};
+use crate::complements::FreeRow;
+use crate::fixed::FIXED;
 use rules::place::Place;
-use rules::row::{Row, ValueType};
-
-// The rows that every cleared book begins with.
-const FIXED: [Row; 8] = [
-    Row::OfType(ValueType::Null),
-    Row::OfType(ValueType::Boolean),
-    Row::OfType(ValueType::Number),
-    Row::OfType(ValueType::Text),
-    Row::OfType(ValueType::List),
-    Row::OfType(ValueType::Object),
-    Row::True,
-    Row::False,
-];
-
-// The two halves of a cleared book's definitions: the bodies, and their complements.
-#[derive(Clone, Copy)]
-pub enum Half {
-    Bodies,
-    Complements,
-}
+use rules::row::Row;
 
 // Writes rows over those from `at` on.
 fn put(out: &mut [Row], at: usize, rows: &[Row])
@@ -42,46 +25,28 @@ pub(crate) fn write_rows(rows: &[Row], d: u16, out: &mut [Row], places: &mut [Pl
     ensures { WrittenRows d rows.now out.old out.new places.new }
 {
     put(out, 0, &FIXED);
-    let mut count: usize = 8;
+    let mut count = FIXED.len();
     for (r, row) in rows.iter().enumerate() {
-        let new = adds(&places[..r], d, count as u16, *row);
-        put(out, count, &new.rows[..new.count]);
-        count += new.count;
+        let free = FreeRow {
+            number: count as u16,
+        };
+        let new = adds(&places[..r], d, free, *row);
+        let added = new.rows.as_slice();
+        put(out, count, added);
+        count += added.len();
         places[r] = new.stands;
     }
 }
 
-// The row that a body goes to.
-fn half_row(place: Place, half: Half) -> u16
-    ensures { result ≡ half_row half place }
-{
-    match half {
-        Half::Bodies => place.positive,
-        Half::Complements => place.negative,
-    }
-}
-
-// Writes one half of the definitions over those from `at` on.
-fn write_half(definitions: &[u16], places: &[Place], half: Half, out: &mut [u16], at: usize)
-    requires { at + length definitions.now ≤ length out.old }
-    ensures { out.new ≡ paste out.old at (map (λ b. half_row half (look_up places.now b)) definitions.now) (length definitions.now) }
-{
-    for (k, body) in definitions.iter().enumerate() {
-        out[at + k] = half_row(place_of(places, *body), half);
-    }
-}
-
-// Writes the definitions, by the places of their bodies.
+// Writes the bodies of the definitions, and after them those of their complements, by the places of their bodies.
 pub(crate) fn write_bodies(definitions: &[u16], places: &[Place], out: &mut [u16])
     requires { length definitions.now + length definitions.now ≤ length out.old }
     ensures { out.new ≡ written_over (bodies places.now definitions.now) out.old }
 {
-    write_half(definitions, places, Half::Bodies, out, 0);
-    write_half(
-        definitions,
-        places,
-        Half::Complements,
-        out,
-        definitions.len(),
-    );
+    let (bodies, complements) = out.split_at_mut(definitions.len());
+    for (k, body) in definitions.iter().enumerate() {
+        let place = place_of(places, *body);
+        bodies[k] = place.positive;
+        complements[k] = place.negative;
+    }
 }

@@ -5,8 +5,6 @@ mod into;
 #[cfg(test)]
 mod limits;
 #[cfg(test)]
-mod sealed_limits;
-#[cfg(test)]
 mod small_books;
 #[cfg(test)]
 mod views;

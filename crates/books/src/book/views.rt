@@ -1,11 +1,13 @@
 // Seals books, and looks at their parts.
 ghost use Rattle.std.specs.Prelude.{◌≡◌, length};
-ghost use Rattle.rules.specs.Book.{limits_of, Sealed};
-ghost use Rattle.books.specs.Guard.{book_of};
+ghost use Rattle.rules.specs.Book.{Sealed};
+ghost use Rattle.books.specs.Drafts.{drafted, limits_in};
 ghost use Rattle.books.specs.Sealing.{counts};
 ghost use Rattle.books.specs.Views.{Views, Nothing};
 
 use crate::book::Book;
+use crate::draft::Draft;
+use crate::limits::Limits;
 use crate::sealing::test_book;
 use kinds::number::Number;
 use rules::row::Row;
@@ -21,8 +23,10 @@ impl<'a> Book<'a> {
         ensures { Nothing result }
     {
         Book {
-            rows: &FALSE_ROW,
-            definitions: &FIRST_ROW,
+            draft: Draft {
+                rows: &FALSE_ROW,
+                definitions: &FIRST_ROW,
+            },
             numbers: 0,
             patterns: 0,
         }
@@ -30,39 +34,33 @@ impl<'a> Book<'a> {
 
     // Seals rows and definitions that pass the test; of any others it makes the book that accepts nothing.
     // So what it makes is a sealed book always.
-    pub fn seal<K: Number>(
-        rows: &'a [Row],
-        definitions: &'a [u16],
-        numbers: &[K],
-        patterns: usize,
-    ) -> Book<'a>
-        ensures same { Sealed (limits_of K.Number.kind patterns numbers.now) (book_of rows.now definitions.now) → Views result rows.now definitions.now (length numbers.now) patterns }
-        ensures nothing { (Sealed (limits_of K.Number.kind patterns numbers.now) (book_of rows.now definitions.now) → ⊥) → Nothing result }
-        ensures sealed { Sealed (counts result.patterns result.numbers) (book_of result.rows.now result.definitions.now) }
+    pub fn seal<K: Number>(draft: Draft<'a>, limits: Limits<'_, K>) -> Book<'a>
+        ensures same { Sealed (limits_in K.Number.kind limits.entry) (drafted draft.entry) → Views result draft.entry.rows.now draft.entry.definitions.now (length limits.entry.numbers.now) limits.entry.patterns }
+        ensures nothing { (Sealed (limits_in K.Number.kind limits.entry) (drafted draft.entry) → ⊥) → Nothing result }
+        ensures sealed { Sealed (counts result.patterns result.numbers) (drafted result.draft) }
     {
-        if let Err(_) = test_book(rows, definitions, numbers, patterns) {
+        if let Err(_) = test_book(draft, limits) {
             return Book::accepting_nothing();
         }
         Book {
-            rows,
-            definitions,
-            numbers: numbers.len(),
-            patterns,
+            draft,
+            numbers: limits.numbers.len(),
+            patterns: limits.patterns,
         }
     }
 
     // The rows.
     pub fn rows(&self) -> &'a [Row]
-        ensures { result.now ≡ self.now.rows.now }
+        ensures { result.now ≡ self.now.draft.rows.now }
     {
-        self.rows
+        self.draft.rows
     }
 
     // The body rows of the definitions.
     pub fn definitions(&self) -> &'a [u16]
-        ensures { result.now ≡ self.now.definitions.now }
+        ensures { result.now ≡ self.now.draft.definitions.now }
     {
-        self.definitions
+        self.draft.definitions
     }
 
     // How many numbers the book has.

@@ -7,25 +7,28 @@ ghost use Rattle.clearing.specs.Cleared.{Nothing};
 use crate::cleared::Cleared;
 use crate::form::is_cleared;
 use books::book::Book;
+use books::draft::Draft;
+use books::limits::Limits;
 use kinds::whole::Whole;
 use rules::row::Row;
 
-// A definition whose body is a row that is false, and its complement.
-static FALSE_AND_TRUE: [Row; 2] = [Row::False, Row::True];
-
-static FIRST_AND_SECOND: [u16; 2] = [0, 1];
-
-// It has no numbers, so that their kind is all one.
-static NO_NUMBERS: [Whole; 0] = [];
-
 impl<'a> Cleared<'a> {
-    // The cleared book that accepts nothing.
+    // The cleared book that accepts nothing: a definition whose body is a row that is false, and its complement.
     fn accepting_nothing() -> Cleared<'a>
         ensures nothing { Nothing result }
         ensures cleared { ClearedBook (view_limits result.book) (viewed result.book) }
     {
+        let draft = Draft {
+            rows: &[Row::False, Row::True],
+            definitions: &[0, 1],
+        };
+        // it has no numbers, so that their kind is all one
+        let limits = Limits::<Whole> {
+            numbers: &[],
+            patterns: 0,
+        };
         Cleared {
-            book: Book::seal(&FALSE_AND_TRUE, &FIRST_AND_SECOND, &NO_NUMBERS, 0),
+            book: Book::seal(draft, limits),
         }
     }
 
@@ -43,14 +46,14 @@ impl<'a> Cleared<'a> {
 
     // The rows.
     pub fn rows(&self) -> &'a [Row]
-        ensures { result.now ≡ self.now.book.rows.now }
+        ensures { result.now ≡ self.now.book.draft.rows.now }
     {
         self.book.rows()
     }
 
     // The body rows of the definitions, and then of their complements.
     pub fn definitions(&self) -> &'a [u16]
-        ensures { result.now ≡ self.now.book.definitions.now }
+        ensures { result.now ≡ self.now.book.draft.definitions.now }
     {
         self.book.definitions()
     }

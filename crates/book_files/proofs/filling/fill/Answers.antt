@@ -33,14 +33,14 @@ returns-in_err-number_count-in-1 g c =
     (memory c.loop-at.numbers c.loop-at.rows c.loop-at.definitions) c.loop-at.number_count c.loop-at.row_count c.loop-at.definition_count c.loop-at.last c.loop-at.at
     c.in_err-number_count-in-1.field-0.0 c.loop-at.invariant.0 c.loop-at-test.true field.body.now field.rest.now (rw (← c.in-1.is) took) c.in_err-number_count-in-1.ensures.0)
 
-pub slice_bounds-before-end : goal.slice_bounds-before-end
-slice_bounds-before-end g c =
+pub slice_bounds-limits-end : goal.slice_bounds-limits-end
+slice_bounds-limits-end g c =
     numbers_within g.K.Number.kind c.args.patterns c.args.bytes.now (memory c.args.numbers.now c.args.rows.now c.args.definitions.now)
     (memory c.loop-at.numbers c.loop-at.rows c.loop-at.definitions) c.loop-at.number_count c.loop-at.row_count c.loop-at.definition_count c.loop-at.last c.loop-at.at
     c.loop-at.invariant.0
 
-pub slice_bounds-before-end-in-2 : goal.slice_bounds-before-end-in-2
-slice_bounds-before-end-in-2 g c =
+pub slice_bounds-limits-end-in-2 : goal.slice_bounds-limits-end-in-2
+slice_bounds-limits-end-in-2 g c =
     sym (length-take-le c.loop-at.number_count c.loop-at.numbers
     (numbers_within g.K.Number.kind c.args.patterns c.args.bytes.now (memory c.args.numbers.now c.args.rows.now c.args.definitions.now)
     (memory c.loop-at.numbers c.loop-at.rows c.loop-at.definitions) c.loop-at.number_count c.loop-at.row_count c.loop-at.definition_count c.loop-at.last c.loop-at.at

@@ -6,33 +6,33 @@ use Rattle.book_files.specs.Drafts.{memory}
 use Rattle.book_files.proofs.Whole.{within, whole_read, whole_refused}
 use Rattle.book_files.proofs.reading.read_whole.Goals as goal
 
-pub slice_bounds-test_end-end : goal.slice_bounds-test_end-end
-slice_bounds-test_end-end g c =
+pub slice_bounds-draft-end : goal.slice_bounds-draft-end
+slice_bounds-draft-end g c =
     (within g.K.Number.kind c.args.patterns (memory c.args.numbers.now c.args.rows.now c.args.definitions.now) c.args.bytes.now
     (memory c.fill.new.numbers c.fill.new.rows c.fill.new.definitions) c.in_ok-counts.counts c.in_ok-counts.ensures).1
 
-pub slice_bounds-test_end-end-2 : goal.slice_bounds-test_end-end-2
-slice_bounds-test_end-end-2 g c =
+pub slice_bounds-draft-end-2 : goal.slice_bounds-draft-end-2
+slice_bounds-draft-end-2 g c =
     sym (length-take-le c.in_ok-counts.counts.rows c.fill.new.rows (within g.K.Number.kind c.args.patterns (memory c.args.numbers.now c.args.rows.now c.args.definitions.now) c.args.bytes.now
     (memory c.fill.new.numbers c.fill.new.rows c.fill.new.definitions) c.in_ok-counts.counts c.in_ok-counts.ensures).1)
 
-pub slice_bounds-test_end-end-3 : goal.slice_bounds-test_end-end-3
-slice_bounds-test_end-end-3 g c =
+pub slice_bounds-draft-end-3 : goal.slice_bounds-draft-end-3
+slice_bounds-draft-end-3 g c =
     (within g.K.Number.kind c.args.patterns (memory c.args.numbers.now c.args.rows.now c.args.definitions.now) c.args.bytes.now
     (memory c.fill.new.numbers c.fill.new.rows c.fill.new.definitions) c.in_ok-counts.counts c.in_ok-counts.ensures).2
 
-pub slice_bounds-test_end-end-4 : goal.slice_bounds-test_end-end-4
-slice_bounds-test_end-end-4 g c =
+pub slice_bounds-draft-end-4 : goal.slice_bounds-draft-end-4
+slice_bounds-draft-end-4 g c =
     sym (length-take-le c.in_ok-counts.counts.definitions c.fill.new.definitions (within g.K.Number.kind c.args.patterns (memory c.args.numbers.now c.args.rows.now c.args.definitions.now) c.args.bytes.now
     (memory c.fill.new.numbers c.fill.new.rows c.fill.new.definitions) c.in_ok-counts.counts c.in_ok-counts.ensures).2)
 
-pub slice_bounds-test_end-end-5 : goal.slice_bounds-test_end-end-5
-slice_bounds-test_end-end-5 g c =
+pub slice_bounds-limits-end : goal.slice_bounds-limits-end
+slice_bounds-limits-end g c =
     (within g.K.Number.kind c.args.patterns (memory c.args.numbers.now c.args.rows.now c.args.definitions.now) c.args.bytes.now
     (memory c.fill.new.numbers c.fill.new.rows c.fill.new.definitions) c.in_ok-counts.counts c.in_ok-counts.ensures).0
 
-pub slice_bounds-test_end-end-6 : goal.slice_bounds-test_end-end-6
-slice_bounds-test_end-end-6 g c =
+pub slice_bounds-limits-end-2 : goal.slice_bounds-limits-end-2
+slice_bounds-limits-end-2 g c =
     sym (length-take-le c.in_ok-counts.counts.numbers c.fill.new.numbers (within g.K.Number.kind c.args.patterns (memory c.args.numbers.now c.args.rows.now c.args.definitions.now) c.args.bytes.now
     (memory c.fill.new.numbers c.fill.new.rows c.fill.new.definitions) c.in_ok-counts.counts c.in_ok-counts.ensures).0)
 

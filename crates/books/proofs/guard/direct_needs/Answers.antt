@@ -1,5 +1,5 @@
 -- Each kind of row needs what the code lists.
-use Rattle.std.proofs.Common.{refl, arith}
+use Rattle.std.proofs.Common.{refl, ⊎_elim, arith}
 use Rattle.books.specs.Guard.{book_of}
 use Rattle.books.proofs.Needing.{needs_nothing}
 use Rattle.books.proofs.guard.direct_needs.Goals as goal
@@ -17,7 +17,4 @@ pub returns-in_default : goal.returns-in_default
 returns-in_default c = λ rows. needs_nothing (book_of rows c.args.definitions.now) c.args.row c.in_default.not-And c.in_default.not-Or c.in_default.not-Not c.in_default.not-Variable
 
 pub returns-in-And : goal.returns-in-And
-returns-in-And c = λ rows. rw c.in-And.is refl
-
-pub returns-in-Or : goal.returns-in-Or
-returns-in-Or c = λ rows. rw c.in-Or.is refl
+returns-in-And c = λ rows. ⊎_elim (λ e. rw e refl) (λ e. rw e refl) c.in-And.is

@@ -1,14 +1,9 @@
--- No row so far is a `not`.
-use Rattle.std.proofs.Common.{arith}
-use Rattle.rules.specs.declared.row.Row.TheVariants.{True}
-use Rattle.clearing.proofs.Forms.{found, none_here, none_at_all}
+-- Each row is asked.
+use Rattle.std.proofs.Common.{rules, tests}
+use Rattle.std.proofs.lemmas.Iterator.{cases_from_all, YieldsList-from_slice}
+use Rattle.clearing.proofs.Forms.{NoNot, SomeNot, told_of_all}
 use Rattle.clearing.proofs.form.without_not.Goals as goal
 
-pub returns-then-is_not : goal.returns-then-is_not
-returns-then-is_not c = found c.args.rows.now c.loop-row.row-index True (omega arith) c.if-is_not.ensures
-
-pub loop-row-preserved : goal.loop-row-preserved
-loop-row-preserved c = none_here c.args.rows.now c.loop-row.row-index True (omega arith) c.loop-row.invariant c.if-is_not.ensures
-
 pub returns : goal.returns
-returns c = none_at_all c.args.rows.now c.loop-row.row-index (omega arith) c.loop-row.invariant
+returns c = told_of_all c.args.rows.now c.all.result
+    (cases_from_all _ _ _ NoNot SomeNot c.all.ensures.ran (YieldsList-from_slice c.args.rows.now cc) (λ x q k. search (rules, tests)) (λ x q k. search (rules, tests)))

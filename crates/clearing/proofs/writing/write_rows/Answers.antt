@@ -1,5 +1,6 @@
 -- The rows so far are written, and their places known.
-use Rattle.std.proofs.Common.{◌≡◌, ◌+◌, length, take, refl, ap, ◌∙◌, arith, length-take, rules}
+use Rattle.std.proofs.Common.{◌≡◌, ◌+◌, length, take, refl, ap, ◌∙◌, arith}
+use lib.Seq.{paste}
 use Rattle.std.proofs.lemmas.List.{take_all}
 use Rattle.rules.specs.declared.row.Row.TheVariants.{True}
 use Rattle.rules.specs.Clear.{fixed, clearing, begun}
@@ -12,23 +13,26 @@ use Rattle.clearing.proofs.writing.write_rows.Goals as goal
 pub put-requires : goal.put-requires
 put-requires c = omega (arith, part_short c.args.d c.args.rows.now 0, c.requires.room)
 
-pub overflow_cast-count : goal.overflow_cast-count
-overflow_cast-count c = omega (arith, part_short c.args.d c.args.rows.now c.loop-r.r, c.requires.few_rows, c.loop-r.invariant.1)
+pub overflow_cast-free : goal.overflow_cast-free
+overflow_cast-free c = omega (arith, part_short c.args.d c.args.rows.now c.loop-r.r, c.requires.few_rows, c.loop-r.invariant.1)
 
-pub adds-new-requires : goal.adds-new-requires
-adds-new-requires c = (
-  omega (arith, part_short c.args.d c.args.rows.now c.loop-r.r, c.requires.few_rows, c.loop-r.invariant.1),
-  (c.requires.few_definitions, plain_at c.args.d c.args.rows.now c.loop-r.r True c.loop-r-test.true c.requires.plain),
-)
+pub invariant_of-free : goal.invariant_of-free
+invariant_of-free c = omega (arith, part_short c.args.d c.args.rows.now c.loop-r.r, c.requires.few_rows, c.loop-r.invariant.1)
+
+pub adds-new-requires-clause-plain : goal.adds-new-requires-clause-plain
+adds-new-requires-clause-plain c = plain_at c.args.d c.args.rows.now c.loop-r.r True c.loop-r-test.true c.requires.plain
 
 pub put-requires-in-loop-r : goal.put-requires-in-loop-r
 put-requires-in-loop-r c =
     let i = c.loop-r.invariant in
     let next = count_next c.args.d c.args.rows.now c.loop-r.r c.loop-r.count c.loop-r.places (listed c.adds-new.result) i.1 i.2 c.loop-r-test.true c.adds-new.ensures in
-    omega (arith, next, part_short c.args.d c.args.rows.now (c.loop-r.r + 1), c.requires.room, c.loop-r.auto.out, c.put.auto.out)
+    omega (arith, next, ap length c.as_slice-added.ensures, part_short c.args.d c.args.rows.now (c.loop-r.r + 1), c.requires.room, c.loop-r.auto.out, c.put.auto.out)
 
 pub overflow_add-count : goal.overflow_add-count
-overflow_add-count c = omega (arith, part_short c.args.d c.args.rows.now c.loop-r.r, c.requires.few_rows, c.loop-r.invariant.1, c.adds-new.result.few)
+overflow_add-count c =
+    let i = c.loop-r.invariant in
+    let next = count_next c.args.d c.args.rows.now c.loop-r.r c.loop-r.count c.loop-r.places (listed c.adds-new.result) i.1 i.2 c.loop-r-test.true c.adds-new.ensures in
+    omega (arith, next, ap length c.as_slice-added.ensures, part_short c.args.d c.args.rows.now (c.loop-r.r + 1), c.requires.few_rows)
 
 pub loop-r-preserved : goal.loop-r-preserved
 loop-r-preserved c =
@@ -40,9 +44,10 @@ loop-r-preserved c =
     let places = c.loop-r.places in
     let new = listed c.adds-new.result in
     let here = c.loop-r-test.true in
-    let n : length (take c.adds-new.result.count c.adds-new.result.rows) ≡ c.adds-new.result.count = simp length-take (search rules) in (
-      rows_next d rows r count places new i.1 i.2 here c.adds-new.ensures c.put.new.out c.loop-r.out c.put-in-loop-r.new.out i.0 c.put-in-loop-r.ensures,
-      omega (arith, count_next d rows r count places new i.1 i.2 here c.adds-new.ensures, n),
+    let is : c.as_slice-added.result.now ≡ new.rows = c.as_slice-added.ensures in (
+      rows_next d rows r count places new i.1 i.2 here c.adds-new.ensures c.put.new.out c.loop-r.out c.put-in-loop-r.new.out i.0
+          (c.put-in-loop-r.ensures ∙ ap (λ xs. paste c.loop-r.out count xs (length xs)) is),
+      omega (arith, count_next d rows r count places new i.1 i.2 here c.adds-new.ensures, ap length is),
       places_next d rows r count places new i.1 i.2 here c.adds-new.ensures (omega (arith, c.loop-r.auto.places, c.requires.places_room)),
     )
 

@@ -1,7 +1,6 @@
 -- What passed the test is sealed, and so is the book that accepts nothing.
 use Rattle.std.proofs.Common.{refl}
-use Rattle.rules.specs.Book.{limits_of}
-use Rattle.books.specs.Guard.{book_of}
+use Rattle.books.specs.Drafts.{drafted, limits_in}
 use Rattle.books.specs.Sealing.{counts}
 use Rattle.books.proofs.Keeping.{counts_pass, view_sealed}
 use Rattle.books.proofs.book.Book.seal.Goals as goal
@@ -10,7 +9,7 @@ pub invariant_of-result : goal.invariant_of-result
 invariant_of-result g c =
     let sealed = c.in_default.ensures.seals in
     record {
-      passed = counts_pass (limits_of g.K.Number.kind c.args.patterns c.args.numbers.now) (book_of c.args.rows.now c.args.definitions.now) sealed;
+      passed = counts_pass (limits_in g.K.Number.kind c.args.limits) (drafted c.args.draft) sealed;
       guarded = sealed.guarded;
     }
 
@@ -20,13 +19,13 @@ returns-in-Err g c =
     record {
       same = λ sealed. elim (c.in-Err.ensures.seals sealed) [ ];
       nothing = λ _. c.accepting_nothing.ensures;
-      sealed = view_sealed (counts b.patterns b.numbers) (book_of b.rows.now b.definitions.now) b.passed b.guarded;
+      sealed = view_sealed (counts b.patterns b.numbers) (drafted b.draft) b.passed b.guarded;
     }
 
 pub returns : goal.returns
 returns g c =
-    let limits = limits_of g.K.Number.kind c.args.patterns c.args.numbers.now in
-    let book = book_of c.args.rows.now c.args.definitions.now in
+    let limits = limits_in g.K.Number.kind c.args.limits in
+    let book = drafted c.args.draft in
     let sealed = c.in_default.ensures.seals in
     record {
       same = λ _. (refl, refl, refl, refl);

@@ -1,8 +1,0 @@
--- The rows that are left decide.
-use Rattle.rules.specs.Book.{limits_of}
-use Rattle.books.specs.Tests.{counted_row}
-use Rattle.books.proofs.Passing.{Decide}
-use Rattle.books.proofs.parts.test_rows.Given as goal
-
-abbrev pub invariant-loop-at : goal.invariant-loop-at
-invariant-loop-at g l = Decide (counted_row (limits_of g.K.Number.kind l.patterns l.numbers)) l.rows l.at
