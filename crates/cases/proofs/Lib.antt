@@ -5,3 +5,4 @@ mod Hexing
 mod Piecing
 mod Showing
 mod Refusing
+mod Reading

@@ -20,10 +20,7 @@ pub fn next_number(words: &mut Parts<'_>) -> Option<usize>
     ensures value { result ≡ number_first (parts_left words.old) }
     ensures after { parts_left words.new ≡ drop 1 (parts_left words.old) }
 {
-    match words.next_part() {
-        Some(word) => number(word),
-        None => None,
-    }
+    words.next().and_then(number)
 }
 
 // Takes the next two words off, as numbers.
@@ -45,7 +42,7 @@ pub fn read_refusal(words: Parts<'_>) -> Option<Refused>
     }
     let (number, place) = next_two(&mut rest)?;
     let (cause, layer) = next_two(&mut rest)?;
-    if rest.next_part().is_some() {
+    if rest.next().is_some() {
         return None;
     }
     Some(Refused {
