@@ -2,7 +2,7 @@
 use kinds::decimal::Decimal;
 use kinds::number::Number;
 use kinds::whole::Whole;
-use lists::numbers::Numbers;
+use lists::lent::LentList;
 
 // How many numbers of a slice are above zero.
 fn positives<K: Number>(numbers: &[K]) -> usize {
@@ -17,7 +17,7 @@ fn positives<K: Number>(numbers: &[K]) -> usize {
 
 // What a list with room for two does with three numbers: the places of two, whether it is full then, and how many are above zero.
 fn fill<K: Number>(token: &[u8], slots: &mut [K]) -> Option<(usize, usize, bool, usize)> {
-    let mut numbers = Numbers::new(slots, 2);
+    let mut numbers = LentList::new(slots, 2);
     let number = K::from_token(token)?;
     let first = numbers.push(number)?;
     let second = numbers.push(K::zero())?;
@@ -37,7 +37,7 @@ fn a_list_grows_to_its_maximum(rt: HostRuntime) {
 #[test]
 fn a_list_grows_to_its_memory(rt: HostRuntime) {
     let mut slots = [Whole::zero(); 1];
-    let mut numbers = Numbers::new(&mut slots, 1024);
+    let mut numbers = LentList::new(&mut slots, 1024);
     assert_eq!(rt; numbers.push(Whole::zero()), Some(0));
     assert_eq!(rt; numbers.push(Whole::zero()), None);
     assert_eq!(rt; numbers.len(), 1);
