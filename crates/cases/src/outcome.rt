@@ -1,10 +1,12 @@
 // The outcome that a line expects.
-ghost use Rattle.std.specs.Prelude.{◌≡◌, drop, MatchOption};
+ghost use Rattle.std.specs.Prelude.{◌≡◌, drop, Some, MatchOption};
 ghost use Rattle.cases.specs.Lefts.{parts_left};
-ghost use Rattle.cases.specs.Outcomes.{number_first, TakesTwo, Spells};
+ghost use Rattle.cases.specs.Outcomes.{number_first, TakesTwo, Spells, refused, refused_text};
 
 use crate::numeral::number;
 use crate::parts::Parts;
+use faults::Refusal;
+use std::fmt;
 
 // A refusal as a line states it: `refused NUMBER PLACE CAUSE LAYER`.
 #[derive(Clone, Copy, PartialEq, Eq)]
@@ -13,6 +15,41 @@ pub struct Refused {
     pub place: usize,
     pub cause: usize,
     pub layer: usize,
+}
+
+impl Refused {
+    // The refusal of a fault that has a cause of this number.
+    pub fn with_cause(refusal: Refusal, cause: u8) -> Refused
+        ensures { result ≡ refused refusal cause }
+    {
+        Refused {
+            number: usize::from(refusal.number),
+            place: refusal.place,
+            cause: usize::from(cause),
+            layer: usize::from(u8::from(refusal.layer)),
+        }
+    }
+}
+
+// Where a fault has no cause, that is 0.
+impl From<Refusal> for Refused {
+    ghost from_gives = { λ refusal r. r ≡ refused refusal 0 };
+
+    fn from(refusal: Refusal) -> Refused {
+        Refused::with_cause(refusal, 0)
+    }
+}
+
+impl fmt::Display for Refused {
+    ghost output = { λ r. Some (refused_text r) };
+
+    fn fmt<W: fmt::Write>(&self, f: &mut fmt::Formatter<W>) -> fmt::Result {
+        write!(
+            f,
+            "refused {} {} {} {}",
+            self.number, self.place, self.cause, self.layer
+        )
+    }
 }
 
 // Takes the next word off, as a number.
