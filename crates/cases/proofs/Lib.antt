@@ -1,5 +1,4 @@
-mod Splitting
-mod Taking
+pub mod Splitting
 mod Numbering
 mod Hexing
 mod Piecing

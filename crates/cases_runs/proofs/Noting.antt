@@ -1,14 +1,9 @@
 -- What is noted of a line.
-use Rattle.std.proofs.Common.{◌≡◌, ℕ, Bool, true, not, List, ◌++◌, IfOk, Ok, Err, Decides, Result, ap, ◌∙◌}
+use Rattle.std.proofs.Common.{◌≡◌, ℕ, Bool, true, not, List, ◌++◌, Decides, ap, ◌∙◌}
 use Rattle.std.proofs.lemmas.Bool.{both_ways}
 use Rattle.cases.specs.declared.tally.Tally.{Tally}
 use Rattle.cases_runs.specs.Reports.{name_at, differing_line}
 use Rattle.cases_runs.specs.Runs.{counted_at, Notes, differing}
-
--- what follows from what was made holds where it was made
-pub made_so : {X Y A B : Type 0} (r : Result X Y) → (A → B) → IfOk r (λ _. A) → IfOk r (λ _. B)
-made_so (Ok x) f a = f a
-made_so (Err y) f a = tt
 
 -- a case that differs is counted and told of
 pub noted :
