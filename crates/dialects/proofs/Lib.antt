@@ -1,5 +1,5 @@
 mod Filling
-mod Outcomes
+pub mod Outcomes
 mod Rows
 mod Tails
 mod Walks

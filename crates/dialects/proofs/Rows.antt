@@ -7,6 +7,7 @@ use Rattle.fields.specs.Parts.{part, part_bytes}
 use Rattle.std.proofs.lemmas.List.{append-nil, take_at, drop_at, drop-drop}
 use Rattle.std.proofs.lemmas.Bool.{cases_lt, ltb-false, eqb-true, not-false, or_parts, le-ltb, eq-eqb, lt-leb}
 use Rattle.dialects.specs.declared.fault.PatternFault.{PatternFault}
+use Rattle.dialects.specs.declared.fault.PatternFault.TheVariants.{TooMany}
 use Rattle.dialects.specs.Files.{file, Short, places, refuses, Stops, Outcome}
 
 -- a test that refuses nothing came out false
@@ -15,30 +16,35 @@ cond_none true e rest h = let z : ◌≡◌ {A = ℕ} 0 1 = cc in absurd (omega 
 cond_none false e rest h = (refl, h)
 
 -- what stands in a field that nothing refuses
-pub record Good (tag : ℕ) (full : Bool) (bytes : List ℕ) : Type 0 where
+pub record Good (tag : ℕ) (bytes : List ℕ) : Type 0 where
   pub tagged : tag_of bytes ≡ tag
   pub within : 3 + stated_length bytes ≤ length bytes
   pub short : stated_length bytes ≤ 255
-  pub space : full ≡ false
 
-pub good_from : (tag : ℕ) (full : Bool) (place : ℕ) (bytes : List ℕ) → refuses tag full place bytes ≡ None → Good tag full bytes
-good_from tag full place bytes h =
+pub good_from : (tag place : ℕ) (bytes : List ℕ) → refuses tag false place bytes ≡ None → Good tag bytes
+good_from tag place bytes h =
     let a = cond_none (ltb (length bytes) 3) _ _ h in
     let b = cond_none (not (eqb (tag_of bytes) tag)) _ _ a.1 in
     let c = cond_none (ltb (length bytes) (3 + stated_length bytes) || ltb 255 (stated_length bytes)) _ _ b.1 in
-    let d = cond_none full _ _ c.1 in
     let lengths = or_parts (ltb (length bytes) (3 + stated_length bytes)) (ltb 255 (stated_length bytes)) c.0 in
     record {
       tagged = eqb-true (tag_of bytes) tag (not-false (eqb (tag_of bytes) tag) b.0);
       within = ltb-false (length bytes) (3 + stated_length bytes) lengths.0;
       short = ltb-false 255 (stated_length bytes) lengths.1;
-      space = d.0;
     }
 
+-- such a field may still be one too many
+pub full_refused : (tag place : ℕ) (bytes : List ℕ) → refuses tag false place bytes ≡ None → refuses tag true place bytes ≡ Some (TooMany place)
+full_refused tag place bytes h =
+    let a = cond_none (ltb (length bytes) 3) _ _ h in
+    let b = cond_none (not (eqb (tag_of bytes) tag)) _ _ a.1 in
+    let c = cond_none (ltb (length bytes) (3 + stated_length bytes) || ltb 255 (stated_length bytes)) _ _ b.1 in
+    rw (a.0, b.0, c.0) refl
+
 -- a good field's pattern, and what follows it
-pub good_cut : (tag : ℕ) (full : Bool) (bytes : List ℕ) → Good tag full bytes →
+pub good_cut : (tag : ℕ) (bytes : List ℕ) → Good tag bytes →
     bytes ≡ field_bytes tag (take (stated_length bytes) (drop 3 bytes)) ++ drop (3 + stated_length bytes) bytes
-good_cut tag full bytes good =
+good_cut tag bytes good =
     let body = take (stated_length bytes) (drop 3 bytes) in
     field_cut bytes good.within (omega (arith, good.short))
     ∙ ap (λ t. field_bytes t body ++ drop (3 + stated_length bytes) bytes) good.tagged

@@ -1,57 +1,55 @@
 -- Where a comparison of a mask with a string stands, and what a step of it may do.
-use Rattle.std.specs.Prelude.{◌≡◌, ℕ, ◌+◌, ◌-◌, ◌*◌, ◌<◌, ◌≤◌, Bool, true, false, ◌||◌, List, length, drop, Some, None, Option}
+use Rattle.std.specs.Prelude.{◌≡◌, ℕ, suc, ◌+◌, ◌*◌, ◌<◌, ◌≤◌, Bool, true, false, ◌||◌, List, [], ◌∷◌, length, drop, Some, None, Option}
 use Rattle.dialects.specs.declared.matcher.Cursor.{Cursor}
 use Rattle.dialects.specs.declared.matcher.Retry.{Retry}
 use Rattle.dialects.specs.Masks.{some_tail, mask_holds}
 
--- what follows a star of the mask, from m on, is tried from the string's byte s on
-abbrev pub trying_from : ℕ → ℕ → Cursor
-trying_from m s = record { mask = m; text = s; retry = Some (record { mask = m; text = s }) }
+-- the string without some of its first bytes, one at least, passes the test
+abbrev pub some_later_tail : (List ℕ → Bool) → List ℕ → Bool
+some_later_tail test [] = false
+some_later_tail test (c ∷ s) = some_tail test s
 
--- the next try, if there was a star
-abbrev pub next_try : Option Retry → Option Cursor
-next_try None = None
-next_try (Some r) = Some (trying_from r.mask (r.text + 1))
+-- what follows the last star matches further on than where it was tried
+abbrev pub later : Option Retry → Bool
+later None = false
+later (Some r) = some_later_tail (mask_holds r.mask.now) r.text.now
 
--- the try began inside the string
-abbrev pub Within : Option Retry → ℕ → Type 0
-Within None n = Unit {0}
-Within (Some r) n = r.text < n
+-- the mask matches here, or after another try
+abbrev pub still : Cursor → Bool
+still c = mask_holds c.mask.now c.text.now || later c.retry
 
-module _ (mask text : List ℕ) where
-  -- the mask from m on matches the string from s on
-  abbrev pub from : ℕ → ℕ → Bool
-  from m s = mask_holds (drop m mask) (drop s text)
+-- a try that begins further on would also come to this rest of the mask further on, by as much
+abbrev pub Ahead : (mask text : List ℕ) → Option Retry → Type 0
+Ahead mask text None = Unit {0}
+Ahead mask text (Some r) =
+    (length mask ≤ length r.mask.now) × (length text ≤ length r.text.now)
+    × ((k : ℕ) → mask_holds r.mask.now (drop (suc k) r.text.now) ≡ true → mask_holds mask (drop (suc k) text) ≡ true)
 
-  -- what follows the last star matches further on than where it is tried now
-  abbrev pub later : Option Retry → Bool
-  later None = false
-  later (Some r) = some_tail (mask_holds (drop r.mask mask)) (drop (r.text + 1) text)
+abbrev pub Sound : Cursor → Type 0
+Sound c = Ahead c.mask.now c.text.now c.retry
 
-  -- the mask matches here, or after another try
-  abbrev pub still : Cursor → Bool
-  still c = from c.mask c.text || later c.retry
+-- how many steps are left, at most, with so many bytes of mask and string
+abbrev pub steps : (mask text : ℕ) → Option Retry → ℕ
+steps mask text None = (text + 1) * (mask + 1)
+steps mask text (Some r) = length r.text.now * (length r.mask.now + 1) + mask
 
-  -- a try that begins further on would also come to the mask's byte m further on in the string, by as much
-  abbrev pub Ahead : ℕ → ℕ → Option Retry → Type 0
-  Ahead m s None = Unit {0}
-  Ahead m s (Some r) =
-      (r.mask ≤ m) × (r.text ≤ s)
-      × ((k : ℕ) → from r.mask (r.text + 1 + k) ≡ true → from m (s + 1 + k) ≡ true)
+-- so a comparison takes no more steps than (length text + 1) * (length mask + 1)
+abbrev pub steps_left : Cursor → ℕ
+steps_left c = steps (length c.mask.now) (length c.text.now) c.retry
 
-  abbrev pub Sound : Cursor → Type 0
-  Sound c = (c.mask ≤ length mask) × (c.text ≤ length text) × Ahead c.mask c.text c.retry
+-- this rest of the mask is tried on this rest of the string, and remembered
+abbrev pub Remembers : (mask text : List ℕ) → Option Retry → Type 0
+Remembers mask text None = ⊥
+Remembers mask text (Some r) = (r.mask.now ≡ mask) × (r.text.now ≡ text)
 
-  -- how many tries are left
-  abbrev pub tries : Option Retry → ℕ
-  tries None = length text + 1
-  tries (Some r) = length text - r.text
+abbrev pub Begins : (mask text : List ℕ) → Cursor → Type 0
+Begins mask text c = (c.mask.now ≡ mask) × (c.text.now ≡ text) × Remembers mask text c.retry
 
-  -- how many steps are left, at most: so a comparison takes no more than (length text + 2) * (length mask + 1)
-  abbrev pub steps_left : Cursor → ℕ
-  steps_left c = tries c.retry * (length mask + 1) + (length mask - c.mask)
+abbrev pub BeginsNext : (mask text : List ℕ) → Option Cursor → Type 0
+BeginsNext mask text None = text ≡ []
+BeginsNext mask text (Some c) = (0 < length text) × Begins mask (drop 1 text) c
 
-  -- a step keeps the answer and leaves fewer steps, or the answer is no
-  abbrev pub Steps : Cursor → Option Cursor → Type 0
-  Steps c None = still c ≡ false
-  Steps c (Some d) = Sound d × (still d ≡ still c) × (steps_left d < steps_left c)
+-- a step keeps the answer and leaves fewer steps, or the answer is no
+abbrev pub Steps : Cursor → Option Cursor → Type 0
+Steps c None = still c ≡ false
+Steps c (Some d) = Sound d × (still d ≡ still c) × (steps_left d < steps_left c)

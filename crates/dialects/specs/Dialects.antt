@@ -23,13 +23,17 @@ abbrev pub Finds : List ℕ → List Part → ℕ → Option (Bor (List ℕ)) �
 Finds file parts pattern None = part_count parts ≤ pattern
 Finds file parts pattern (Some bytes) = (pattern < part_count parts) × (bytes.now ≡ pattern_bytes file parts pattern)
 
+-- the set of a pattern of a file: what its bytes match
+abbrev pub listed_holds : (matched : List ℕ → List ℕ → Bool) → List ℕ → List Part → ℕ → List ℕ → Bool
+listed_holds matched file parts pattern text = matched (pattern_bytes file parts pattern) text
+
 -- a name's set: its own bytes
 abbrev pub name_holds : List ℕ → List Part → ℕ → List ℕ → Bool
-name_holds file parts pattern text = bytes_eq (pattern_bytes file parts pattern) text
+name_holds = listed_holds bytes_eq
 
 -- a mask's set: what the mask matches
 abbrev pub masked : List ℕ → List Part → ℕ → List ℕ → Bool
-masked file parts pattern text = mask_holds (pattern_bytes file parts pattern) text
+masked = listed_holds mask_holds
 
 -- the count of two dialects side by side, up to the greatest
 abbrev pub pair_count : ℕ → ℕ → ℕ

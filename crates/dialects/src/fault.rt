@@ -13,12 +13,12 @@ pub enum PatternFault {
     TooMany(usize),
 }
 
-impl PatternFault {
-    // The number, place and layer of this fault.
-    pub fn refusal(self) -> Refusal
-        ensures { result ≡ refusal_of self }
-    {
-        let (number, place) = match self {
+// The number, place and layer of a fault.
+impl From<PatternFault> for Refusal {
+    ghost from_gives = { λ fault refusal. refusal ≡ refusal_of fault };
+
+    fn from(fault: PatternFault) -> Refusal {
+        let (number, place) = match fault {
             PatternFault::FileTooLong => (31, 0),
             PatternFault::UnknownTag(place) => (21, place),
             PatternFault::WrongLength(place) => (22, place),

@@ -3,9 +3,11 @@
 
 pub mod dialect;
 pub mod fault;
-mod list;
+pub mod limits;
+pub mod list;
 pub mod masks;
 mod matcher;
 pub mod names;
 pub mod pair;
 pub mod reading;
+pub mod syntax;

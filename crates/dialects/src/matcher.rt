@@ -1,22 +1,22 @@
 // Compares a mask with a string, in time at most proportional to the product of their lengths.
-ghost use Rattle.std.specs.Prelude.{◌≡◌, ◌<◌, ◌||◌, List, [], length, ◌==◌};
-ghost use Rattle.dialects.specs.Masks.{any_byte, mask_holds};
-ghost use Rattle.dialects.specs.Cursors.{Sound, Steps, Within, trying_from, next_try};
+ghost use Rattle.std.specs.Prelude.{◌≡◌, ◌<◌, ◌||◌, length, ◌==◌, ◌↔◌, IsTrue, EachIndex, slice_index};
+ghost use Rattle.dialects.specs.Masks.{star, any_byte, mask_holds};
+ghost use Rattle.dialects.specs.Cursors.{Sound, Begins, BeginsNext, Steps};
 
-// What follows the last star of the mask, and the byte of the string from which it is tried.
+// What follows the last star of the mask, and the rest of the string on which it was tried last.
 #[derive(Clone, Copy)]
-pub(crate) struct Retry {
-    mask: usize,
-    text: usize,
+pub(crate) struct Retry<'a> {
+    mask: &'a [u8],
+    text: &'a [u8],
 }
 
-// The bytes of mask and string that are compared next. Only the last star needs to be remembered:
-// what stands before it was matched as early as can be, so no other choice leaves more of the string.
+// What is left of mask and string. Only the last star needs to be remembered: what stands before it
+// was matched as early as can be, so no other choice leaves more of the string.
 #[derive(Clone, Copy)]
-pub(crate) struct Cursor {
-    mask: usize,
-    text: usize,
-    retry: Option<Retry>,
+pub(crate) struct Cursor<'a> {
+    mask: &'a [u8],
+    text: &'a [u8],
+    retry: Option<Retry<'a>>,
 }
 
 // Whether a byte of a mask, which is no star, stands for a byte of a string.
@@ -26,77 +26,66 @@ fn stands_for(byte: u8, other: u8) -> bool
     byte == b'?' || byte == other
 }
 
-// The cursor that tries what follows a star of the mask from a byte of the string on.
-fn trying(mask: usize, text: usize) -> Cursor
-    ensures { result ≡ trying_from mask text }
-{
-    let retry = Some(Retry { mask, text });
-    Cursor { mask, text, retry }
-}
-
-// Tries what follows the last star one byte further on, if there was a star.
-fn next_try(retry: Option<Retry>, length: usize) -> Option<Cursor>
-    requires { Within retry length }
-    ensures { result ≡ next_try retry }
-{
-    let Retry { mask, text } = retry?;
-    Some(trying(mask, text + 1))
-}
-
-impl Cursor {
-    // One step in a string that is not at its end; none where the mask can't match any more.
-    fn step(self, mask: &[u8], text: &[u8]) -> Option<Cursor>
-        requires { (Sound mask.now text.now self) × (self.text < length text.now) }
-        ensures { Steps mask.now text.now self result }
+impl<'a> Retry<'a> {
+    // The comparison that begins with this try.
+    fn begin(self) -> Cursor<'a>
+        ensures { Begins self.entry.mask.now self.entry.text.now result }
     {
-        let Cursor {
-            mask: m,
-            text: s,
-            retry,
-        } = self;
-        if m < mask.len() {
-            if mask[m] == b'*' {
-                return Some(trying(m + 1, s));
-            }
-            if stands_for(mask[m], text[s]) {
-                return Some(Cursor {
-                    mask: m + 1,
-                    text: s + 1,
-                    retry,
-                });
-            }
+        Cursor {
+            mask: self.mask,
+            text: self.text,
+            retry: Some(self),
         }
-        next_try(retry, text.len())
+    }
+
+    // The comparison that begins with the next try, one byte further on, if there is a byte.
+    fn begin_next(self) -> Option<Cursor<'a>>
+        ensures { BeginsNext self.entry.mask.now self.entry.text.now result }
+    {
+        let (_, text) = self.text.split_first()?;
+        Some(Retry { text, ..self }.begin())
+    }
+}
+
+impl<'a> Cursor<'a> {
+    // One step in a string that is not at its end; none where the mask can't match any more.
+    fn step(self) -> Option<Cursor<'a>>
+        requires { Sound self × (0 < length self.text.now) }
+        ensures { Steps self.entry result }
+    {
+        match (self.mask, self.text) {
+            ([b'*', mask @ ..], text) => Some(Retry { mask, text }.begin()),
+            ([byte, mask @ ..], [other, text @ ..]) if stands_for(*byte, *other) => Some(Cursor {
+                mask,
+                text,
+                ..self
+            }),
+            _ => self.retry?.begin_next(),
+        }
     }
 }
 
 // Whether nothing but stars is left of a mask.
 fn only_stars(mask: &[u8]) -> bool
-    ensures { result ≡ mask_holds mask.now [] }
+    ensures { IsTrue result ↔ EachIndex mask.now (λ k. slice_index mask.now k ≡ star) }
 {
-    for byte in mask {
-        if *byte != b'*' {
-            return false;
-        }
-    }
-    true
+    mask.iter().all(|byte| *byte == b'*')
 }
 
 // Whether a mask matches a string.
-pub(crate) fn mask_matches(mask: &[u8], text: &[u8]) -> bool
+pub(crate) fn mask_matches<'a>(mask: &'a [u8], text: &'a [u8]) -> bool
     ensures { result ≡ mask_holds mask.now text.now }
 {
     let mut at = Cursor {
-        mask: 0,
-        text: 0,
+        mask,
+        text,
         retry: None,
     };
-    while at.text < text.len() {
-        let Some(next) = at.step(mask, text) else {
+    while !at.text.is_empty() {
+        let Some(next) = at.step() else {
             return false;
         };
         at = next;
     }
-    let left = at.mask;
-    only_stars(&mask[left..])
+    only_stars(at.mask)
 }

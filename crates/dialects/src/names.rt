@@ -1,49 +1,24 @@
 // Names: each pattern is matched by exactly its own bytes.
-ghost use Rattle.std.specs.Prelude.{◌≡◌};
 ghost use Rattle.std.specs.Str.{bytes_eq};
-ghost use Rattle.dialects.specs.Dialects.{part_count, name_holds};
 
-use crate::dialect::Dialect;
 use crate::list::PatternList;
-use fields::part::Part;
+use crate::syntax::Syntax;
 
 // The names of a file.
+pub type Names<'a> = PatternList<'a, Exact>;
+
+// The syntax of names.
 #[derive(Clone, Copy)]
-pub struct Names<'a> {
-    list: PatternList<'a>,
-}
+pub struct Exact;
 
-impl<'a> Names<'a> {
-    // Looks at a file through these parts, whatever they are.
-    pub fn new(file: &'a [u8], parts: &'a [Part]) -> Names<'a>
-        ensures { (result.list.file.now ≡ file.now) × (result.list.parts.now ≡ parts.now) }
-    {
-        Names {
-            list: PatternList::new(file, parts),
-        }
-    }
-}
+impl Syntax for Exact {
+    ghost TAG = { 4 };
 
-// Whether two strings are the same.
-fn is_same(one: &[u8], other: &[u8]) -> bool
-    ensures { result ≡ bytes_eq one.now other.now }
-{
-    one == other
-}
+    ghost matched = { bytes_eq };
 
-impl<'a> Dialect for Names<'a> {
-    ghost count = { λ d. part_count d.list.parts.now };
+    const TAG: u8 = 4;
 
-    ghost holds = { λ d. name_holds d.list.file.now d.list.parts.now };
-
-    fn pattern_count(&self) -> usize {
-        self.list.count()
-    }
-
-    fn is_match(&self, pattern: usize, text: &[u8]) -> bool {
-        match self.list.get(pattern) {
-            Some(name) => is_same(name, text),
-            None => false,
-        }
+    fn matches(pattern: &[u8], text: &[u8]) -> bool {
+        pattern == text
     }
 }

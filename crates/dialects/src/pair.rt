@@ -2,6 +2,7 @@
 ghost use Rattle.dialects.specs.Dialects.{pair_count, pair_holds};
 
 use crate::dialect::Dialect;
+use crate::limits::MOST_PATTERNS;
 
 // The first dialect's patterns keep their numbers, the second's follow them.
 #[derive(Clone, Copy)]
@@ -16,7 +17,7 @@ impl<F: Dialect, S: Dialect> Dialect for Pair<F, S> {
     ghost holds = { λ d. pair_holds (F.Dialect.count d.first) (F.Dialect.holds d.first) (S.Dialect.holds d.second) };
 
     fn pattern_count(&self) -> usize {
-        (self.first.pattern_count() + self.second.pattern_count()).min(65535)
+        (self.first.pattern_count() + self.second.pattern_count()).min(MOST_PATTERNS)
     }
 
     fn is_match(&self, pattern: usize, text: &[u8]) -> bool {
@@ -24,7 +25,7 @@ impl<F: Dialect, S: Dialect> Dialect for Pair<F, S> {
         if pattern < before {
             return self.first.is_match(pattern, text);
         }
-        if pattern >= 65535 {
+        if pattern >= MOST_PATTERNS {
             return false;
         }
         self.second.is_match(pattern - before, text)

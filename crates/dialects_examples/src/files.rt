@@ -1,6 +1,6 @@
 // Files that are read, and files that are refused.
-use dialects::fault::PatternFault;
 use dialects::reading::{read_masks, read_names};
+use faults::Refusal;
 use fields::part::Part;
 
 const UNTOUCHED: Part = Part {
@@ -8,21 +8,12 @@ const UNTOUCHED: Part = Part {
     length: 9,
 };
 
-const NOTHING: Part = Part {
-    start: 0,
-    length: 0,
-};
-
 // The number, place and layer of a refused names file that is read into memory for two patterns.
 fn refused_names(file: &[u8]) -> Option<(u8, usize, u8)> {
     let mut parts = [UNTOUCHED; 2];
-    match read_names(file, &mut parts) {
-        Ok(_) => None,
-        Err(fault) => {
-            let refusal = fault.refusal();
-            Some((refusal.number, refusal.place, refusal.layer.number()))
-        }
-    }
+    let fault = read_names(file, &mut parts).err()?;
+    let refusal = Refusal::from(fault);
+    Some((refusal.number, refusal.place, u8::from(refusal.layer)))
 }
 
 #[test]
@@ -72,9 +63,9 @@ fn a_refused_file_leaves_nothing(rt: HostRuntime) {
     let mut parts = [UNTOUCHED; 3];
     let read = read_names(b"\x04\x00\x03Ulm\x05\x00\x00", &mut parts);
     assert_eq!(rt; read.is_err(), true);
-    assert_eq!(rt; parts[0], NOTHING);
-    assert_eq!(rt; parts[1], NOTHING);
-    assert_eq!(rt; parts[2], NOTHING);
+    assert_eq!(rt; parts[0], Part::default());
+    assert_eq!(rt; parts[1], Part::default());
+    assert_eq!(rt; parts[2], Part::default());
 }
 
 #[test]

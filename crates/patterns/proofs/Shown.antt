@@ -1,17 +1,20 @@
 -- One more pattern, one more line.
-use Rattle.std.proofs.Common.{◌≡◌, ℕ, zero, suc, ◌+◌, ◌-◌, ◌<◌, ◌≤◌, Bool, true, false, List, [], ◌∷◌, ◌++◌, length, get_or, take, drop, decimal, sym, refl, ap, ◌∙◌, add-one, arith, length-drop}
-use Rattle.std.proofs.lemmas.List.{append-nil, append_assoc, flat_map_more, take_more, take_all, take_rest}
-use Rattle.std.specs.List.{flat_map}
-use Rattle.std.proofs.lemmas.Bool.{ne_eqb}
+use Rattle.std.proofs.Common.{◌≡◌, ℕ, zero, suc, ◌+◌, ◌-◌, ◌<◌, ◌≤◌, Bool, cond, eqb, List, [], ◌∷◌, ◌++◌, length, get_or, take, drop, Some, None, sym, refl, ⊎_elim, zero-add, ap, ◌∙◌, add-one, arith, length-drop}
+use Rattle.std.proofs.lemmas.List.{map-id, append_assoc, take_rest}
+use Rattle.std.specs.List.{flat_map, filter, range_with_len, position, position_or_len}
+use Rattle.std.proofs.lemmas.Bool.{ne_eqb, eqb-true, eqb-false, lt-ltb, cases_lt}
+use Rattle.std.proofs.lemmas.Option.{none-some}
+use Rattle.std.proofs.lemmas.List.Quantifiers.{position-Some}
+use Rattle.std.proofs.lemmas.List.FromFn.{filter_of_map_range_with_len_more}
+use Rattle.std.proofs.lemmas.List.Sums.{fails_before_first}
 use Rattle.patterns.specs.Report.{passing, numbers_shown, line, lines, report, FirstLine}
 
--- what is found after one more question
-module _ (test : ℕ → Bool) (n : ℕ) (before after : List ℕ) (found : before ≡ passing test n) (result : Bool) (says : result ≡ test n) where
-  pub found_one : result ≡ true → after ≡ before ++ n ∷ [] → after ≡ passing test (n + 1)
-  found_one hit more = more ∙ rw (found, add-one, ← says, hit) refl
-
-  pub found_none : result ≡ false → after ≡ before → after ≡ passing test (n + 1)
-  found_none miss same = same ∙ found ∙ rw (add-one, ← says, miss) (sym (append-nil (passing test n)))
+-- the numbers that pass are those that a filter leaves
+pub filter_passing : (test : ℕ → Bool) (n : ℕ) → filter test (range_with_len 0 n) ≡ passing test n
+filter_passing test zero = refl
+filter_passing test (suc n) =
+    let more = simp map-id at (filter_of_map_range_with_len_more test (λ k. k) 0 n n (zero-add n)) in
+    ap (λ k. filter test (range_with_len 0 k)) (sym (add-one n)) ∙ more ∙ ap (λ ks. ks ++ cond (test n) (n ∷ []) []) (filter_passing test n)
 
 -- the line up to its end
 pub lines_cut : (bytes : List ℕ) (i : ℕ) → i < length bytes → ((k : ℕ) → k < i → get_or bytes k 0 ≡ 10 → ⊥) → get_or bytes i 0 ≡ 10 →
@@ -32,27 +35,38 @@ lines_last (c ∷ d ∷ s) some none =
 
 -- what `split_line` answers, as slices are read
 pub first_line : (bytes : List ℕ) (i : ℕ) → i < length bytes → ((k : ℕ) → k < i → get_or bytes k 0 ≡ 10 → ⊥) → get_or bytes i 0 ≡ 10 →
-    FirstLine bytes (take (i - 0) (drop 0 bytes)) (take (length bytes - (i + 1)) (drop (i + 1) bytes))
+    FirstLine bytes (take i bytes) (take (length bytes - (i + 1)) (drop (i + 1) bytes))
 first_line bytes i inside none here =
     let whole : take (length bytes - (i + 1)) (drop (i + 1) bytes) ≡ drop (suc i) bytes = take_rest bytes (i + 1) ∙ ap (λ k. drop k bytes) (add-one i) in
-    let front : i - 0 ≡ i = omega arith in
-    rw (front, whole) (lines_cut bytes i inside none here, simp length-drop (omega arith))
+    rw whole (lines_cut bytes i inside none here, simp length-drop (omega arith))
 
 pub last_line : (bytes : List ℕ) → 0 < length bytes → ((k : ℕ) → k < length bytes → get_or bytes k 0 ≡ 10 → ⊥) → FirstLine bytes bytes []
 last_line bytes some none = (lines_last bytes some none, some)
 
--- the numbers one by one
-pub numbers_more : (bs ns : List ℕ) (i : ℕ) → i < length ns →
-    (bs ++ flat_map (λ k. 32 ∷ decimal k) (take i ns)) ++ 32 ∷ decimal (get_or ns i 0) ≡ bs ++ flat_map (λ k. 32 ∷ decimal k) (take (i + 1) ns)
-numbers_more bs ns i inside = flat_map_more (λ k. 32 ∷ decimal k) bs (take i ns) (get_or ns i 0) ∙ ap (λ xs. bs ++ flat_map (λ k. 32 ∷ decimal k) xs) (sym (take_more ns i 0 inside))
+-- what `split_line` answers, by where the first line end is
+pub closed_line : (bytes : List ℕ) (end : ℕ) → Some end ≡ position (λ byte. eqb byte 10) bytes →
+    FirstLine bytes (take end bytes) (take (length bytes - (end + 1)) (drop (end + 1) bytes))
+closed_line bytes end is =
+    let first = position-Some (λ byte. eqb byte 10) bytes end 0 (sym is) in
+    first_line bytes end first.0 (λ k below. eqb-false (get_or bytes k 0) 10 (first.2 k below)) (eqb-true (get_or bytes end 0) 10 first.1)
 
-pub numbers_all : (ns : List ℕ) (i : ℕ) → 0 < length ns → length ns ≤ i → flat_map (λ k. 32 ∷ decimal k) (take i ns) ≡ numbers_shown ns
-numbers_all [] i some end = absurd (omega arith)
-numbers_all (n ∷ ns) i some end = ap (flat_map (λ k. 32 ∷ decimal k)) (take_all i (n ∷ ns) end)
+none_left : (bytes : List ℕ) (k : ℕ) → None ≡ position (λ byte. eqb byte 10) bytes → k < length bytes → get_or bytes k 0 ≡ 10 → ⊥
+none_left bytes k is below here =
+    ⊎_elim
+    (λ (some : position_or_len (λ byte. eqb byte 10) bytes < length bytes).
+    let found : position (λ byte. eqb byte 10) bytes ≡ Some (position_or_len (λ byte. eqb byte 10) bytes) = rw (lt-ltb (position_or_len (λ byte. eqb byte 10) bytes) (length bytes) some) refl in
+    none-some (position_or_len (λ byte. eqb byte 10) bytes) (is ∙ found))
+    (λ (past : length bytes ≤ position_or_len (λ byte. eqb byte 10) bytes).
+    eqb-false (get_or bytes k 0) 10 (fails_before_first (λ byte. eqb byte 10) bytes k 0 (omega arith)) here)
+    (cases_lt (position_or_len (λ byte. eqb byte 10) bytes) (length bytes))
+
+pub open_line : (bytes : List ℕ) → 0 < length bytes → None ≡ position (λ byte. eqb byte 10) bytes → FirstLine bytes bytes []
+open_line bytes some is = last_line bytes some (λ k below. none_left bytes k is below)
 
 -- a line put together from its parts
-pub line_parts : (bs a b c d text numbers : List ℕ) → a ≡ bs ++ text → b ≡ a ++ 58 ∷ [] → c ≡ b ++ numbers_shown numbers → d ≡ c ++ 10 ∷ [] → d ≡ bs ++ line text numbers
-line_parts bs a b c d text numbers p q r s = s ∙ rw (r, q, p) (simp append_assoc)
+pub line_parts : (out texted lined text shown numbers : List ℕ) → texted ≡ out ++ text → lined ≡ texted ++ shown → shown ≡ 58 ∷ (numbers_shown numbers ++ 10 ∷ []) →
+    lined ≡ out ++ line text numbers
+line_parts out texted lined text shown numbers p q r = q ∙ rw (p, r) (append_assoc out text (58 ∷ (numbers_shown numbers ++ 10 ∷ [])))
 
 -- a line more is printed, and the rest of the input is shorter by it
 pub report_more : (count : ℕ) (test : ℕ → List ℕ → Bool) (whole out longer rest text more numbers : List ℕ) → lines rest ≡ text ∷ lines more →
@@ -62,8 +76,3 @@ report_more count test whole out longer rest text more numbers cut found added h
     ap (λ xs. xs ++ flat_map each (lines more)) (added ∙ ap (λ ns. out ++ line text ns) found)
     ∙ append_assoc out (each text) (flat_map each (lines more))
     ∙ ap (λ ls. out ++ flat_map each ls) (sym cut) ∙ h
-
--- the input is at its end
-pub report_end : (count : ℕ) (test : ℕ → List ℕ → Bool) (whole out rest : List ℕ) → length rest ≡ 0 → out ++ report count test rest ≡ whole → out ≡ whole
-report_end count test whole out [] end h = sym (append-nil out) ∙ h
-report_end count test whole out (c ∷ rest) end h = absurd (omega arith)

@@ -1,6 +1,5 @@
 -- What is printed, in terms of the patterns of the two files.
 use Rattle.std.proofs.Common.{◌≡◌, ℕ, zero, suc, ◌+◌, ◌-◌, ◌*◌, ◌<◌, ◌≤◌, Bool, cond, List, [], ◌∷◌, ◌++◌, map, length, get_or, take, Ok, Err, Result, sym, refl, ap, ◌∙◌, ⊎_elim, arith, length-append}
-use native.Mathlib.Nat.{sub-zero}
 use Rattle.fields.specs.Parts.{part, part_bytes}
 use Rattle.fields.specs.declared.part.Part.{Part}
 use Rattle.dialects.specs.Dialects.{answer, part_count, pattern_bytes, pair_count, pair_holds, name_holds, masked}
@@ -11,7 +10,7 @@ use Rattle.std.specs.List.{flat_map}
 use Rattle.std.specs.Str.{bytes_eq}
 use Rattle.std.proofs.lemmas.List.{length-map, get_or-map}
 use Rattle.std.proofs.lemmas.Bool.{cases_lt, lt-ltb, le-ltb}
-use Rattle.patterns.specs.Answers.{matches, side_by_side, refused_line, Prints}
+use Rattle.patterns.specs.Answers.{matches, side_by_side, Prints}
 use Rattle.patterns.specs.Report.{passing, line, lines, report}
 
 passing_same : (f g : ℕ → Bool) (n : ℕ) → ((k : ℕ) → k < n → f k ≡ g k) → passing f n ≡ passing g n
@@ -81,26 +80,9 @@ few_patterns tag most n bytes ps o e =
     (cases_lt 65535 (length bytes))
 
 module _ (most most' : ℕ) (names masks input out : List ℕ) where
-  pub prints_names_refused : (fault : PatternFault) → Only 4 most names (Err fault) → out ≡ refused_line fault → Prints most most' names masks input out
-  prints_names_refused fault only e =
-      record {
-        names_refused = λ f h. let same : ◌≡◌ {A = Result ℕ PatternFault} (Err f) (Err fault) = only (Err f) h in e ∙ ap refused_line (cc);
-        masks_refused = λ n f h _. absurd (never (only (Ok n) h));
-        answered = λ n m ps qs h. absurd (never (only (Ok n) h));
-      }
-
-  pub prints_masks_refused : (n : ℕ) (fault : PatternFault) → Only 4 most names (Ok n) → Only 5 most' masks (Err fault) → out ≡ refused_line fault →
-      Prints most most' names masks input out
-  prints_masks_refused n fault only only' e =
-      record {
-        names_refused = λ f h. absurd (never (sym (only (Err f) h)));
-        masks_refused = λ _ f _ h. let same : ◌≡◌ {A = Result ℕ PatternFault} (Err f) (Err fault) = only' (Err f) h in e ∙ ap refused_line (cc);
-        answered = λ k m ps qs _ h. absurd (never (only' (Ok m) h));
-      }
-
   -- what the parts of both files give, once they are read
   pub prints_answered : (n m : ℕ) (before after before' after' : List Part) → Only 4 most names (Ok n) → Only 5 most' masks (Ok m) →
-      After 4 names before after (Ok n) → After 5 masks before' after' (Ok m) → out ≡ side_by_side names (take (n - 0) after) masks (take (m - 0) after') input →
+      After 4 names before after (Ok n) → After 5 masks before' after' (Ok m) → out ≡ side_by_side names (take n after) masks (take m after') input →
       Prints most most' names masks input out
   prints_answered n m before after before' after' only only' memory memory' e =
       record {
@@ -111,7 +93,5 @@ module _ (most most' : ℕ) (names masks input out : List ℕ) where
             let mp = (memory'.1 qs q).1 in
             let few : length (take n after) ≤ 21845 = omega (arith, few_patterns 4 most k names ps o p, sym (length-map (take n after) (part_bytes names)) ∙ ap length np) in
             let few' : length (take m after') ≤ 21845 = omega (arith, few_patterns 5 most' l masks qs o' q, sym (length-map (take m after') (part_bytes masks)) ∙ ap length mp) in
-            e
-            ∙ same_views names names masks masks input _ _ _ _ refl (ap (λ x. take x after) (sub-zero n)) refl (ap (λ x. take x after') (sub-zero m))
-            ∙ same_report names masks (take n after) (take m after') ps qs np mp few few' input;
+            e ∙ same_report names masks (take n after) (take m after') ps qs np mp few few' input;
       }

@@ -1,5 +1,5 @@
 -- What the program prints, by its files and its input.
-use Rattle.std.specs.Prelude.{◌≡◌, ℕ, ◌+◌, ◌-◌, Bool, cond, List, [], ◌∷◌, ◌++◌, length, Ok, Err, nat_lt, slice_index_or}
+use Rattle.std.specs.Prelude.{◌≡◌, ℕ, ◌+◌, ◌-◌, Bool, cond, List, [], ◌∷◌, ◌++◌, length, Vec, Ok, Err, Result, IfOk, nat_lt, slice_index_or}
 use Rattle.dialects.specs.Dialects.{answer, part_count, pair_count, pair_holds, name_holds, masked}
 use Rattle.fields.specs.declared.part.Part.{Part}
 use Rattle.dialects.specs.Faults.{refusal_of}
@@ -7,7 +7,11 @@ use Rattle.dialects.specs.Files.{file, Outcome}
 use Rattle.dialects.specs.Masks.{mask_holds}
 use Rattle.dialects.specs.declared.fault.PatternFault.{PatternFault}
 use Rattle.faults.specs.Refusals.{refusal_line}
+use Rattle.std.specs.Global.{Global}
+use Rattle.std.specs.declared.alloc.AllocError.{AllocError}
 use Rattle.std.specs.Str.{bytes_eq}
+use Rattle.patterns.specs.declared.stop.Stop.{Stop}
+use Rattle.patterns.specs.declared.stop.Stop.TheVariants.{Refused, OutOfMemory}
 use Rattle.patterns.specs.Report.{report}
 
 -- whether pattern k matches a text: names come first, each its own bytes, then masks
@@ -30,3 +34,14 @@ pub record Prints (most most' : ℕ) (names masks input out : List ℕ) : Type 0
   pub masks_refused : (n : ℕ) (fault : PatternFault) → Outcome 4 most names (Ok n) → Outcome 5 most' masks (Err fault) → out ≡ refused_line fault
   pub answered : (n m : ℕ) (ps qs : List (List ℕ)) → Outcome 4 most names (Ok n) → Outcome 5 most' masks (Ok m) →
       names ≡ file 4 ps → masks ≡ file 5 qs → out ≡ report (length ps + length qs) (matches ps qs) input
+
+-- the answers are printed, or the line of the refusal in their place
+abbrev pub Tells : (List ℕ → Type 0) → Result (Vec ℕ Global) Stop → Type 0
+Tells IsPrinted (Ok answers) = IsPrinted answers.items
+Tells IsPrinted (Err (Refused fault)) = IsPrinted (refused_line fault)
+Tells IsPrinted (Err (OutOfMemory error)) = Unit {0}
+
+-- a refusal has a line; without memory there is none
+abbrev pub ToldAs : Stop → Result (Vec ℕ Global) AllocError → Type 0
+ToldAs (Refused fault) told = IfOk told (λ v. v.items ≡ refused_line fault)
+ToldAs (OutOfMemory error) told = told ≡ Err error

@@ -3,11 +3,13 @@
 
 ghost use Rattle.std.specs.Prelude.{◌≡◌, IfOk};
 ghost use Rattle.dialects.specs.Files.{room};
-ghost use Rattle.patterns.specs.Answers.{Prints, refused_line, side_by_side};
+ghost use Rattle.patterns.specs.Answers.{Prints, Tells, side_by_side};
 
+mod lines;
 mod report;
+mod stop;
 
-use dialects::fault::PatternFault;
+use dialects::limits::MOST_FILE_PATTERNS;
 use dialects::masks::Masks;
 use dialects::names::Names;
 use dialects::pair::Pair;
@@ -17,6 +19,7 @@ use report::report;
 use std::alloc::{AllocError, Global};
 use std::io::{Read, Write};
 use std::{fs, io};
+use stop::Stop;
 
 fn main(rt: HostRuntime) -> io::Result<()> {
     let heap = rt.alloc();
@@ -24,13 +27,9 @@ fn main(rt: HostRuntime) -> io::Result<()> {
     let masks = fs::read(&rt, "masks")?;
     let mut input = Vec::new(heap);
     rt.stdin().read_to_end(&mut input)?;
-    let nothing = Part {
-        start: 0,
-        length: 0,
-    };
-    let mut name_parts = vec![in heap; nothing; MOST_PATTERNS]?;
-    let mut mask_parts = vec![in heap; nothing; MOST_PATTERNS]?;
-    let output = answers(
+    let mut name_parts = vec![in heap; Part::default(); MOST_FILE_PATTERNS]?;
+    let mut mask_parts = vec![in heap; Part::default(); MOST_FILE_PATTERNS]?;
+    let output = output(
         heap,
         names.as_slice(),
         masks.as_slice(),
@@ -41,19 +40,8 @@ fn main(rt: HostRuntime) -> io::Result<()> {
     rt.stdout().write_all(output.as_slice())
 }
 
-// A file has at most this many patterns: each takes three bytes at least, and the file 65,535 at most.
-const MOST_PATTERNS: usize = 21845;
-
-// The line that stands in place of the answers.
-fn refused(heap: Global, fault: PatternFault) -> Result<Vec<u8>, AllocError>
-    ensures { IfOk result (λ v. v.items ≡ refused_line fault) }
-{
-    let line = fault.refusal();
-    Ok(format!(in heap; "{line}\n")?.into_bytes())
-}
-
 // What is printed for these files and this input, with this memory for the parts of the files.
-fn answers(
+fn output(
     heap: Global,
     names: &[u8],
     masks: &[u8],
@@ -63,25 +51,36 @@ fn answers(
 ) -> Result<Vec<u8>, AllocError>
     ensures { IfOk result (λ v. Prints (room name_parts.old) (room mask_parts.old) names.now masks.now input.now v.items) }
 {
-    let name_count = match read_names(names, name_parts) {
-        Ok(count) => count,
-        Err(fault) => return refused(heap, fault),
-    };
-    let mask_count = match read_masks(masks, mask_parts) {
-        Ok(count) => count,
-        Err(fault) => return refused(heap, fault),
-    };
-    side_by_side(
-        heap,
-        names,
-        &name_parts[0..name_count],
-        masks,
-        &mask_parts[0..mask_count],
-        input,
-    )
+    match answers(heap, names, masks, input, name_parts, mask_parts) {
+        Ok(answers) => Ok(answers),
+        Err(stop) => stop.line(heap),
+    }
 }
 
-// What is printed for names before masks.
+// The answers, if both files are read. A struct of a file and its memory was tried: the check covers no reading into its field.
+fn answers(
+    heap: Global,
+    names: &[u8],
+    masks: &[u8],
+    input: &[u8],
+    name_parts: &mut [Part],
+    mask_parts: &mut [Part],
+) -> Result<Vec<u8>, Stop>
+    ensures { Tells (Prints (room name_parts.old) (room mask_parts.old) names.now masks.now input.now) result }
+{
+    let name_count = read_names(names, name_parts)?;
+    let mask_count = read_masks(masks, mask_parts)?;
+    Ok(side_by_side(
+        heap,
+        names,
+        &name_parts[..name_count],
+        masks,
+        &mask_parts[..mask_count],
+        input,
+    )?)
+}
+
+// The answers of names before masks. The two views are made here, where all they look at has one lifetime: the check covers no other.
 fn side_by_side<'a>(
     heap: Global,
     names: &'a [u8],

@@ -9,7 +9,7 @@ use crate::lent::LentList;
 impl<'a, T: Copy> LentList<'a, T> {
     // An empty list.
     pub fn new(slots: &'a mut [T], most: usize) -> LentList<'a, T>
-        ensures { (values_of result ≡ []) × (memory_of result ≡ slots.old) × (result.most ≡ most) }
+        ensures { (values_of result ≡ []) × (memory_of result ≡ slots.old) × (result.most ≡ most) × (result.slots.ghost_name ≡ slots.entry.ghost_name) }
     {
         LentList {
             slots,

@@ -5,7 +5,7 @@ use Rattle.dialects.specs.Masks.{mask_holds}
 use Rattle.dialects.proofs.matcher.mask_matches.Given as goal
 
 abbrev pub invariant-loop-at : goal.invariant-loop-at
-invariant-loop-at l = Sound l.mask l.text l.at × (still l.mask l.text l.at ≡ mask_holds l.mask l.text)
+invariant-loop-at l = Sound l.at × (still l.at ≡ mask_holds l.mask l.text)
 
 abbrev pub decreases-loop-at : goal.decreases-loop-at
-decreases-loop-at l = steps_left l.mask l.text l.at
+decreases-loop-at l = steps_left l.at

@@ -1,18 +1,17 @@
--- A pattern that matches is added, another is not.
-use Rattle.std.proofs.Common.{◌≡◌, ℕ, Bool, [], ◌∷◌, ◌++◌, vec_items, ap, rules}
+-- The numbers that pass the test are filtered out of all.
+use Rattle.std.proofs.Common.{ℕ, Bool, ◌∙◌, arith, rules}
+use Rattle.std.proofs.lemmas.Iterator.{YieldsList-from_range, items_from_collect}
+use Rattle.std.proofs.lemmas.Iterator.Consumers.{YieldsList-from_filter}
+use Rattle.std.proofs.lemmas.Result.{IfOk-weaker}
 use Rattle.dialects.specs.Dialects.{answer}
-use Rattle.patterns.proofs.Shown.{found_one, found_none}
+use Rattle.patterns.proofs.Shown.{filter_passing}
 use Rattle.patterns.proofs.report.matching.Goals as goal
-use Rattle.patterns.proofs.report.matching.Goals.{then-is_match+in_ok-push, else-is_match}
 
-pub loop-pattern-preserved : goal.loop-pattern-preserved
-loop-pattern-preserved g c =
-    let i = c.loop-pattern.pattern in
-    let test : ℕ → Bool = λ k. answer (g.D.Dialect.count c.args.dialect.now) (g.D.Dialect.holds c.args.dialect.now) k c.args.text.now in
-    elim c.if-is_match.branch [
-      | then-is_match+in_ok-push w ↦
-          let was = w.in_ok-push.was in
-          let pushed : vec_items c.if-is_match.found ≡ vec_items c.loop-pattern.found ++ i ∷ [] = search rules in
-          found_one test i _ _ c.loop-pattern.invariant _ c.is_match.ensures w.if-is_match.true pushed
-      | else-is_match w ↦ found_none test i _ _ c.loop-pattern.invariant _ c.is_match.ensures w.if-is_match.false (ap vec_items w.found-is)
-    ]
+pub returns : goal.returns
+returns g c =
+    let count = g.D.Dialect.count c.args.dialect.now in
+    let test : ℕ → Bool = λ k. answer count (g.D.Dialect.holds c.args.dialect.now) k c.args.text.now in
+    IfOk-weaker c.collect.result _ _ (λ v e. e ∙ filter_passing test count)
+    (items_from_collect c.collect.result c.collect.ensures.ran
+    (YieldsList-from_filter _ test (YieldsList-from_range 0 c.pattern_count.result count c.filter.ensures.source (omega (arith, c.pattern_count.ensures.0)))
+    c.filter.ensures.closure (λ x b q k. search rules)))

@@ -1,27 +1,29 @@
 -- Each way out is one of the steps of `Walks`.
-use Rattle.std.proofs.Common.{◌≡◌, false, Some, sym, ◌∙◌, subst, arith}
-use Rattle.dialects.specs.Cursors.{from, Steps}
+use Rattle.std.proofs.Common.{◌≡◌, false, drop, sym, ◌∙◌, rules}
+use Rattle.std.proofs.lemmas.List.{take_rest}
+use Rattle.dialects.specs.Masks.{mask_holds}
+use Rattle.dialects.specs.Cursors.{Begins}
 use Rattle.dialects.proofs.Walks.{star_steps, byte_steps, try_steps, ended, differs}
 use Rattle.dialects.proofs.matcher.Cursor.step.Goals as goal
-use Rattle.dialects.proofs.matcher.Cursor.step.Goals.{then-m-mask+else-mask-m-eq42+else-stands_for, else-m-mask}
+use Rattle.dialects.proofs.matcher.Cursor.step.Goals.{in_default-via-then-self-lt1, in_default-via-else-self-lt1+in_default+then-this-lt1, in_default-via-in-len1-up-len1-up+else-stands_for}
 
-pub returns-then-mask-m-eq42 : goal.returns-then-mask-m-eq42
-returns-then-mask-m-eq42 c =
-    subst (λ next. Steps c.args.mask.now c.args.text.now c.args.self (Some next)) (sym c.trying.ensures)
-    (star_steps c.args.mask.now c.args.text.now c.args.self c.requires.0 (omega arith) c.requires.1 c.if-mask-m-eq42.true)
+pub returns-in-42-default : goal.returns-in-42-default
+returns-in-42-default c =
+    let begins : Begins (drop 1 c.args.self.mask.now) c.args.self.text.now c.begin.result = simp take_rest at c.begin.ensures in
+    star_steps c.args.self.mask.now c.args.self.text.now c.args.self.retry c.begin.result c.in-42-default.len_at_least (search rules) c.requires.0 begins
 
-pub returns-then-stands_for : goal.returns-then-stands_for
-returns-then-stands_for c =
-    byte_steps c.args.mask.now c.args.text.now c.args.self c.requires.0 (omega arith) c.requires.1 c.if-mask-m-eq42.false (sym c.stands_for.ensures ∙ c.if-stands_for.true)
+pub returns-in-len1-up-len1-up : goal.returns-in-len1-up-len1-up
+returns-in-len1-up-len1-up c =
+    simp take_rest
+    (byte_steps c.args.self.mask.now c.args.self.text.now c.args.self.retry (search rules) (search rules) (search rules) (sym c.stands_for.ensures ∙ c.if-stands_for.true) c.requires.0)
 
-pub returns : goal.returns
-returns c =
-    let mask = c.args.mask.now in
-    let text = c.args.text.now in
-    let at = c.args.self in
-    let stuck : from mask text at.mask at.text ≡ false =
-    elim c.if-m-mask.branch [
-      | then-m-mask+else-mask-m-eq42+else-stands_for w ↦ differs mask text at.mask at.text w.if-m-mask.true c.requires.1 w.if-mask-m-eq42.false (sym w.stands_for.ensures ∙ w.if-stands_for.false)
-      | else-m-mask w ↦ ended mask text at.mask at.text w.if-m-mask.false c.requires.1
+pub returns-in_ok-self-in_default : goal.returns-in_ok-self-in_default
+returns-in_ok-self-in_default c =
+    let mask = c.args.self.mask.now in
+    let text = c.args.self.text.now in
+    let stuck : mask_holds mask text ≡ false = elim c.in_default.branch [
+      | in_default-via-then-self-lt1 w ↦ ended mask text (search rules) c.requires.1
+      | in_default-via-else-self-lt1+in_default+then-this-lt1 w ↦ ended mask text (search rules) c.requires.1
+      | in_default-via-in-len1-up-len1-up+else-stands_for w ↦ differs mask text (search rules) (search rules) (search rules) (sym w.stands_for.ensures ∙ w.if-stands_for.false)
     ] in
-    subst (Steps mask text at) (sym c.next_try.ensures) (try_steps mask text at.mask at.text at.retry c.requires.0 c.requires.1 stuck)
+    try_steps c.args.self c.in_ok-self-in_default.field-0 c.begin_next.result (search rules) stuck c.requires.0 c.begin_next.ensures
