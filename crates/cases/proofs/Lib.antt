@@ -1,7 +1,7 @@
-mod Splitting
-mod Taking
+pub mod Splitting
 mod Numbering
 mod Hexing
 mod Piecing
 mod Showing
 mod Refusing
+mod Reading

@@ -1,5 +1,5 @@
 -- What `parse` reads of a word, in the words of the specification.
-use Rattle.std.proofs.Common.{◌≡◌, ℕ, ◌^◌, ◌<◌, true, ◌&&◌, ltb, List, [], ◌∷◌, length, get_or, Some, None, Ok, Err, IsUtf8, Result, sym, refl, ap, inl, inr}
+use Rattle.std.proofs.Common.{◌≡◌, ℕ, ◌^◌, ◌<◌, true, ◌&&◌, ltb, List, [], ◌∷◌, length, get_or, Some, None, Ok, Err, IsUtf8, Bor, MatchResult, Result, sym, refl, ap, ◌∙◌, inl, inr, arith}
 use Rattle.std.specs.Str.Parse.{digits_value, ParsesUnsigned}
 use Rattle.std.specs.Result.{OkIff, result_ok}
 use Rattle.std.specs.Str.{all_ascii_digits}
@@ -39,8 +39,21 @@ pub parsed :
 parsed w t r e ne h = from_converted w r (parse_plain own 64 w r (rw e at h) ne)
 
 -- what is no text is no number
-pub no_text : (w : List ℕ) → (IsUtf8 w → ⊥) → number_of w ≡ None
+no_text : (w : List ℕ) → (IsUtf8 w → ⊥) → number_of w ≡ None
 no_text w h = no_number w (λ p. h (IsUtf8-from_ascii w (IsAscii-from_digits w (own.to w p.0))))
+
+-- the text of a word, and the number where there is none
+pub text_of :
+    {E : Type 0} (P : Type 0) (Q : E → Type 0) (w : List ℕ) (r : Result (Bor (List ℕ)) E) (t : Bor (List ℕ)) → result_ok r ≡ Some t
+    → MatchResult r (λ s. (s.now ≡ w) × P) (λ e. (IsUtf8 w → ⊥) × Q e) → t.now ≡ w
+text_of P Q w (Ok s) t e h = (let same : s ≡ t = cc in ap (λ (x : Bor (List ℕ)). x.now) (sym same) ∙ h.0)
+text_of P Q w (Err x) t e h = absurd (let z : ◌≡◌ {A = ℕ} 0 1 = cc in omega arith)
+
+pub none_of :
+    {E : Type 0} (P : Type 0) (Q : E → Type 0) (w : List ℕ) (r : Result (Bor (List ℕ)) E) → result_ok r ≡ None
+    → MatchResult r (λ s. (s.now ≡ w) × P) (λ e. (IsUtf8 w → ⊥) × Q e) → number_of w ≡ None
+none_of P Q w (Ok s) e h = absurd (let z : ◌≡◌ {A = ℕ} 0 1 = cc in omega arith)
+none_of P Q w (Err x) e h = no_text w h.0
 
 -- a word with a sign is no number
 pub signed_none : (w : List ℕ) → get_or w 0 0 ≡ 43 → number_of w ≡ None

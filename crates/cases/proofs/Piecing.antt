@@ -1,12 +1,12 @@
 -- Pieces one after another, each repeated, within the limit.
-use Rattle.std.proofs.Common.{◌≡◌, ℕ, zero, suc, ◌+◌, ◌-◌, ◌<◌, ◌≤◌, leb, List, [], ◌∷◌, ◌++◌, length, Some, None, Err, Option, Vec, sym, refl, ap, ◌∙◌, inl, inr, add-one, arith, length-append}
+use Rattle.std.proofs.Common.{◌≡◌, ℕ, zero, suc, ◌+◌, ◌-◌, ◌<◌, ◌≤◌, leb, List, ◌∷◌, ◌++◌, length, Some, None, Err, Option, Vec, sym, refl, ap, ◌∙◌, inl, inr, add-one, arith, length-append}
 use Rattle.std.proofs.lemmas.List.{append_assoc, append-nil}
 use Rattle.std.proofs.lemmas.Bool.{cases_Bool, leb-true, leb-false, le-leb, lt-leb}
 use Rattle.cases.specs.Bytes.{longest, both, times, limited, piece_bytes, pieces_bytes}
 use Rattle.cases.specs.Splits.{split}
 use Rattle.cases.specs.Read.{Reads, Grows}
-use Rattle.cases.specs.declared.bytes.BytesFault.{BytesFault}
-use Rattle.cases.specs.declared.bytes.BytesFault.TheVariants.{Malformed, OutOfMemory}
+use Rattle.cases.specs.declared.fault.LineFault.{LineFault}
+use Rattle.cases.specs.declared.fault.LineFault.TheVariants.{Unreadable, OutOfMemory}
 use Rattle.std.specs.declared.alloc.Global.{Global}
 use Rattle.cases.proofs.Hexing.{both_assoc}
 
@@ -88,17 +88,9 @@ piece_more done p grown ps left whole len is first read inv =
 
 -- a piece is refused: so is the whole, unless memory ran out
 pub piece_broken :
-    (done p : List ℕ) (ps left : List (List ℕ)) (whole : Option (List ℕ)) (fault : BytesFault) (out : Vec ℕ Global)
+    (done p : List ℕ) (ps left : List (List ℕ)) (whole : Option (List ℕ)) (fault : LineFault) (out : Vec ℕ Global)
     → left ≡ p ∷ ps → Grows (both (Some done) (piece_bytes (split 42 p))) (Err fault) out
     → both (Some done) (pieces_bytes left) ≡ whole → Reads (limited whole) (Err fault)
-piece_broken done p ps left whole Malformed out first refused inv =
+piece_broken done p ps left whole Unreadable out first refused inv =
     rw (← (rw first at inv)) (breaks done (piece_bytes (split 42 p)) (pieces_bytes ps) refused)
 piece_broken done p ps left whole OutOfMemory out first refused inv = tt
-
--- no piece is left
-pub pieces_done :
-    (done : List ℕ) (left : List (List ℕ)) (whole : Option (List ℕ)) (len : ℕ) → len ≡ length done → len ≤ longest
-    → left ≡ [] → both (Some done) (pieces_bytes left) ≡ whole → limited whole ≡ Some done
-pieces_done done left whole len is within none inv =
-    let all : Some done ≡ whole = ap Some (sym (append-nil done)) ∙ rw none at inv in
-    rw (← all) (limited_within done (omega arith))

@@ -1,8 +1,6 @@
 -- The parts of bytes, and a cut at the first mark.
-use Rattle.std.proofs.Common.{◌≡◌, ℕ, zero, suc, ◌+◌, ◌-◌, ◌<◌, List, [], ◌∷◌, ◌++◌, length, get_or, take, drop, sym, refl, ap, ◌∙◌, inl, inr, arith}
-use native.Mathlib.Nat.{sub-zero}
+use Rattle.std.proofs.Common.{◌≡◌, ℕ, zero, suc, ◌<◌, List, [], ◌∷◌, ◌++◌, length, get_or, refl, ap, ◌∙◌, inl, inr, arith}
 use Rattle.std.proofs.lemmas.Bool.{ne_eqb, eq-eqb, cases_eq}
-use Rattle.std.proofs.lemmas.List.{take-append-drop, drop_more, length-take, get_or-take, take_rest}
 use Rattle.cases.specs.Splits.{Free, Parted, grown, split}
 
 free_tail : (mark b : ℕ) (bs : List ℕ) → Free mark (b ∷ bs) → Free mark bs
@@ -65,16 +63,6 @@ split_parted mark (b ∷ bs) = elim (cases_eq b mark) [
   | inl e ↦ rw (eq-eqb b mark e, e) (begun mark bs (split mark bs) (split_parted mark bs))
   | inr ne ↦ rw (ne_eqb b mark ne) (grew mark b bs (split mark bs) ne (split_parted mark bs))
 ]
-
--- a cut at index i, where the first mark stands: the two slices as the code takes them
-pub cut_at :
-    (mark : ℕ) (xs : List ℕ) (i : ℕ)
-    → (i < length xs) × (get_or xs i 0 ≡ mark) × ((k : ℕ) → k < i → get_or xs k 0 ≡ mark → ⊥)
-    → (xs ≡ take (i - 0) xs ++ (mark ∷ take (length xs - (i + 1)) (drop (i + 1) xs))) × Free mark (take (i - 0) xs)
-cut_at mark xs i (within, here, before) = rw (sub-zero, take_rest, ← here) (
-  sym (take-append-drop i xs) ∙ ap (λ (t : List ℕ). take i xs ++ t) (drop_more xs i 0 within),
-  λ k h e. let lt : k < i = omega (arith, length-take i xs) in before k lt (sym (get_or-take i xs k 0 lt) ∙ e ∙ here),
-)
 
 -- the parts of what is cut
 pub split_at : (mark : ℕ) (xs p q : List ℕ) → (xs ≡ p ++ (mark ∷ q)) × Free mark p → split mark xs ≡ p ∷ split mark q

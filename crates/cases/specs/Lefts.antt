@@ -1,5 +1,5 @@
 -- The parts that are left to take.
-use Rattle.std.specs.Prelude.{◌≡◌, ℕ, List, [], ◌∷◌, Some, None, Option}
+use Rattle.std.specs.Prelude.{ℕ, List, [], Some, None, Option}
 use Rattle.std.specs.Borrow.{Bor}
 use Rattle.cases.specs.Splits.{split}
 use Rattle.cases.specs.declared.parts.Parts.{Parts}
@@ -10,8 +10,3 @@ split_rest mark (Some bytes) = split mark bytes.now
 
 abbrev pub parts_left : Parts → List (List ℕ)
 parts_left p = split_rest p.mark p.rest
-
--- the first part comes and the others stay; nothing comes exactly when none is left
-abbrev pub Takes : Parts → Option (Bor (List ℕ)) → Parts → Type 0
-Takes before None after = (parts_left before ≡ []) × (parts_left after ≡ [])
-Takes before (Some part) after = parts_left before ≡ part.now ∷ parts_left after

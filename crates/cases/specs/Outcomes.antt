@@ -1,7 +1,9 @@
--- What words spell an expected refusal.
-use Rattle.std.specs.Prelude.{◌≡◌, ℕ, List, [], ◌∷◌, drop, Some, None, codes, Option, ◌≢◌}
+-- What words spell an expected refusal, and how a refusal is written.
+use Rattle.std.specs.Prelude.{◌≡◌, ℕ, List, [], ◌∷◌, ◌++◌, drop, Some, None, codes, decimal, Option, ◌≢◌}
 use Rattle.cases.specs.Numbers.{number_of}
 use Rattle.cases.specs.declared.outcome.Refused.{Refused}
+use Rattle.faults.specs.Refusals.{layer_number}
+use Rattle.faults.specs.declared.Refusal.{Refusal}
 
 -- the number that the first word writes
 abbrev pub number_first : List (List ℕ) → Option ℕ
@@ -22,3 +24,13 @@ pub record Spells (words : List (List ℕ)) (x : Refused) : Type 0 where
   pub cause : number_first (drop 3 words) ≡ Some x.cause
   pub layer : number_first (drop 4 words) ≡ Some x.layer
   pub ended : drop 5 words ≡ []
+
+-- a refusal, with the number of its cause
+abbrev pub refused : Refusal → ℕ → Refused
+refused x cause = record { number = x.number; place = x.place; cause = cause; layer = layer_number x.layer }
+
+-- `refused NUMBER PLACE CAUSE LAYER`
+abbrev pub refused_text : Refused → List ℕ
+refused_text x =
+    codes "refused " ++ (decimal x.number ++ (codes " " ++ (decimal x.place ++ (codes " "
+    ++ (decimal x.cause ++ (codes " " ++ decimal x.layer))))))

@@ -1,6 +1,6 @@
 -- What the parts of bytes are that a mark parts.
 use Rattle.std.specs.Prelude.{◌≡◌, ℕ, ◌<◌, cond, List, [], ◌∷◌, ◌++◌, length, Some, None, Option, ◌==◌, ◌≢◌, slice_index, slice_index_or}
-use Rattle.cases.specs.declared.parts.Halves.{Halves}
+use Rattle.std.specs.Borrow.{Bor}
 
 -- no byte is the mark
 abbrev pub Free : ℕ → List ℕ → Type 0
@@ -28,18 +28,12 @@ abbrev pub split : ℕ → List ℕ → List (List ℕ)
 split mark [] = [] ∷ []
 split mark (b ∷ bs) = cond (b == mark) ([] ∷ split mark bs) (grown b (split mark bs))
 
--- the index of the first mark, if there is one
-abbrev pub FirstMark : ℕ → List ℕ → Option ℕ → Type 0
-FirstMark mark bytes None = Free mark bytes
-FirstMark mark bytes (Some i) =
-    (i < length bytes) × (slice_index bytes i ≡ mark) × ((k : ℕ) → k < i → slice_index bytes k ≢ mark)
-
--- what a cut at the first mark gives
-abbrev pub Cuts : ℕ → List ℕ → Option Halves → Type 0
+-- what a cut at the first mark gives: what stands before it, and what follows it
+abbrev pub Cuts : ℕ → List ℕ → Option (Bor (List ℕ) × Bor (List ℕ)) → Type 0
 Cuts mark bytes None = Free mark bytes
-Cuts mark bytes (Some h) = (bytes ≡ h.before.now ++ (mark ∷ h.after.now)) × Free mark h.before.now
+Cuts mark bytes (Some h) = (bytes ≡ h.0.now ++ (mark ∷ h.1.now)) × Free mark h.0.now
 
 -- the parts, by such a cut
-abbrev pub parts_after : ℕ → List ℕ → Option Halves → List (List ℕ)
+abbrev pub parts_after : ℕ → List ℕ → Option (Bor (List ℕ) × Bor (List ℕ)) → List (List ℕ)
 parts_after mark bytes None = bytes ∷ []
-parts_after mark bytes (Some h) = h.before.now ∷ split mark h.after.now
+parts_after mark bytes (Some h) = h.0.now ∷ split mark h.1.now

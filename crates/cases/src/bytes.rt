@@ -2,39 +2,17 @@
 // digits, and with `*` and a count after them they are repeated: `5b.31*3` is `[111`.
 ghost use Rattle.std.specs.Prelude.{◌≡◌, ◌<◌, ◌≤◌, ◌++◌, length, IfOk, Some, vec_items, vec_len, string_bytes};
 ghost use Rattle.cases.specs.Splits.{split};
-ghost use Rattle.cases.specs.Bytes.{longest, both, times, hex_digit, byte_of, hex_bytes, piece_bytes, pieces_bytes, limited, bytes_of, hex_char, hex_text, shown};
+ghost use Rattle.cases.specs.Bytes.{longest, both, times, hex_digit, byte_of, hex_bytes, piece_bytes, pieces_bytes, limited, bytes_of, hex_text, shown};
 ghost use Rattle.cases.specs.Read.{Reads, Grows};
-ghost use Rattle.cases.specs.declared.bytes.BytesFault.TheVariants.{OutOfMemory};
 
+use crate::fault::LineFault;
 use crate::numeral::number;
 use crate::parts::Parts;
-use std::alloc::{AllocError, AllocFailed, Global};
+use std::alloc::{AllocError, Global};
+use std::fmt::Write;
 
 // At most so many bytes come of one word, so that no count leads to an endless run.
 const LONGEST: usize = 1048576;
-
-// Why a word gives no bytes.
-#[derive(Clone, Copy)]
-pub enum BytesFault {
-    Malformed,
-    OutOfMemory,
-}
-
-impl From<AllocError> for BytesFault {
-    ghost from_gives = { λ _ r. r ≡ OutOfMemory };
-
-    fn from(_error: AllocError) -> BytesFault {
-        BytesFault::OutOfMemory
-    }
-}
-
-impl<T: Drop> From<AllocFailed<T>> for BytesFault {
-    ghost from_gives = { λ _ r. r ≡ OutOfMemory };
-
-    fn from(_error: AllocFailed<T>) -> BytesFault {
-        BytesFault::OutOfMemory
-    }
-}
 
 // The value of a lower-case hexadecimal digit.
 fn digit(code: u8) -> Option<u8>
@@ -51,42 +29,32 @@ fn digit(code: u8) -> Option<u8>
 fn byte(high: u8, low: u8) -> Option<u8>
     ensures { result ≡ byte_of high low }
 {
-    match (digit(high), digit(low)) {
-        (Some(h), Some(l)) => Some(h * 16 + l),
-        _ => None,
-    }
+    Some(digit(high)? * 16 + digit(low)?)
 }
 
 // The bytes of one pair of digits or more.
-fn hex(heap: Global, digits: &[u8]) -> Result<Vec<u8>, BytesFault>
+fn hex(heap: Global, digits: &[u8]) -> Result<Vec<u8>, LineFault>
     ensures { Reads (hex_bytes digits.now) result }
 {
+    let (pairs, rest) = digits.as_chunks::<2>();
+    if pairs.is_empty() || !rest.is_empty() {
+        return Err(LineFault::Unreadable);
+    }
     let mut bytes = Vec::new(heap);
-    if digits.is_empty() {
-        return Err(BytesFault::Malformed);
-    }
-    let mut rest = digits;
-    while rest.len() > 1 {
-        let Some(b) = byte(rest[0], rest[1]) else {
-            return Err(BytesFault::Malformed);
-        };
-        bytes.push(b)?;
-        rest = &rest[2..];
-    }
-    if !rest.is_empty() {
-        return Err(BytesFault::Malformed);
+    for [high, low] in pairs {
+        bytes.push(byte(*high, *low).ok_or(LineFault::Unreadable)?)?;
     }
     Ok(bytes)
 }
 
 // Adds the bytes, so many times over.
-fn push_times(out: &mut Vec<u8>, bytes: &[u8], count: usize) -> Result<(), BytesFault>
+fn push_times(out: &mut Vec<u8>, bytes: &[u8], count: usize) -> Result<(), LineFault>
     requires { vec_len out.old ≤ longest }
     ensures { Grows (Some (vec_items out.old ++ times count bytes.now)) result out.new }
 {
     for _turn in 0..count {
         if bytes.len() > LONGEST - out.len() {
-            return Err(BytesFault::Malformed);
+            return Err(LineFault::Unreadable);
         }
         out.extend_from_slice(bytes)?;
     }
@@ -94,41 +62,33 @@ fn push_times(out: &mut Vec<u8>, bytes: &[u8], count: usize) -> Result<(), Bytes
 }
 
 // Adds the bytes of a piece.
-fn push_piece(heap: Global, out: &mut Vec<u8>, piece: &[u8]) -> Result<(), BytesFault>
+fn push_piece(heap: Global, out: &mut Vec<u8>, piece: &[u8]) -> Result<(), LineFault>
     requires { vec_len out.old ≤ longest }
     ensures { Grows (both (Some (vec_items out.old)) (piece_bytes (split 42 piece.now))) result out.new }
 {
     let mut parts = Parts::new(piece, b'*');
-    let Some(digits) = parts.next_part() else {
-        return Err(BytesFault::Malformed);
-    };
+    let digits = parts.next().ok_or(LineFault::Unreadable)?;
     let bytes = hex(heap, digits)?;
-    let Some(repeat) = parts.next_part() else {
-        return push_times(out, bytes.as_slice(), 1);
-    };
-    if parts.next_part().is_some() {
-        return Err(BytesFault::Malformed);
+    let count = parts.next().map_or(Some(1), number);
+    if parts.next().is_some() {
+        return Err(LineFault::Unreadable);
     }
-    let Some(count) = number(repeat) else {
-        return Err(BytesFault::Malformed);
-    };
-    push_times(out, bytes.as_slice(), count)
+    push_times(out, bytes.as_slice(), count.ok_or(LineFault::Unreadable)?)
 }
 
 // The bytes of pieces joined by `.`.
-fn read_pieces(heap: Global, word: &[u8]) -> Result<Vec<u8>, BytesFault>
+fn read_pieces(heap: Global, word: &[u8]) -> Result<Vec<u8>, LineFault>
     ensures { Reads (limited (pieces_bytes (split 46 word.now))) result }
 {
     let mut bytes = Vec::new(heap);
-    let mut pieces = Parts::new(word, b'.');
-    while let Some(piece) = pieces.next_part() {
+    for piece in Parts::new(word, b'.') {
         push_piece(heap, &mut bytes, piece)?;
     }
     Ok(bytes)
 }
 
 // The bytes that a word writes.
-pub fn read_bytes(heap: Global, word: &[u8]) -> Result<Vec<u8>, BytesFault>
+pub fn read_bytes(heap: Global, word: &[u8]) -> Result<Vec<u8>, LineFault>
     ensures { Reads (bytes_of word.now) result }
 {
     if word == b"-".as_slice() {
@@ -137,25 +97,13 @@ pub fn read_bytes(heap: Global, word: &[u8]) -> Result<Vec<u8>, BytesFault>
     read_pieces(heap, word)
 }
 
-// The character of a hexadecimal digit.
-fn hex_char(digit: u8) -> char
-    requires { digit < 16 }
-    ensures { (result ≡ hex_char digit) × (result < 128) }
-{
-    if digit < 10 {
-        return char::from(b'0' + digit);
-    }
-    char::from(b'a' - 10 + digit)
-}
-
 // Two digits for each byte.
 fn hex_text(heap: Global, bytes: &[u8]) -> Result<String, AllocError>
     ensures { IfOk result (λ s. string_bytes s ≡ hex_text bytes.now) }
 {
     let mut text = String::new(heap);
     for b in bytes {
-        text.push(hex_char(*b / 16))?;
-        text.push(hex_char(*b % 16))?;
+        write!(text, "{b:02x}")?;
     }
     Ok(text)
 }

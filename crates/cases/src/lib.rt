@@ -2,6 +2,7 @@
 #![tactic(auto)]
 
 pub mod bytes;
+pub mod fault;
 pub mod numeral;
 pub mod outcome;
 pub mod parts;

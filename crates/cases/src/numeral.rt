@@ -9,10 +9,7 @@ fn unsigned(word: &[u8]) -> Option<usize>
     requires { slice_index word.now 0 ≢ 43 }
     ensures { result ≡ number_of word.now }
 {
-    match str::from_utf8(word) {
-        Ok(text) => text.parse::<usize>().ok(),
-        Err(_) => None,
-    }
+    str::from_utf8(word).ok()?.parse().ok()
 }
 
 // The number that a word of decimal digits writes, if it fits. There is no sign, and zeros may lead.

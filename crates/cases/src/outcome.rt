@@ -1,10 +1,12 @@
 // The outcome that a line expects.
-ghost use Rattle.std.specs.Prelude.{◌≡◌, drop, MatchOption};
+ghost use Rattle.std.specs.Prelude.{◌≡◌, drop, Some, MatchOption};
 ghost use Rattle.cases.specs.Lefts.{parts_left};
-ghost use Rattle.cases.specs.Outcomes.{number_first, TakesTwo, Spells};
+ghost use Rattle.cases.specs.Outcomes.{number_first, TakesTwo, Spells, refused, refused_text};
 
 use crate::numeral::number;
 use crate::parts::Parts;
+use faults::Refusal;
+use std::fmt;
 
 // A refusal as a line states it: `refused NUMBER PLACE CAUSE LAYER`.
 #[derive(Clone, Copy, PartialEq, Eq)]
@@ -15,15 +17,47 @@ pub struct Refused {
     pub layer: usize,
 }
 
+impl Refused {
+    // The refusal of a fault that has a cause of this number.
+    pub fn with_cause(refusal: Refusal, cause: u8) -> Refused
+        ensures { result ≡ refused refusal cause }
+    {
+        Refused {
+            number: usize::from(refusal.number),
+            place: refusal.place,
+            cause: usize::from(cause),
+            layer: usize::from(u8::from(refusal.layer)),
+        }
+    }
+}
+
+// Where a fault has no cause, that is 0.
+impl From<Refusal> for Refused {
+    ghost from_gives = { λ refusal r. r ≡ refused refusal 0 };
+
+    fn from(refusal: Refusal) -> Refused {
+        Refused::with_cause(refusal, 0)
+    }
+}
+
+impl fmt::Display for Refused {
+    ghost output = { λ r. Some (refused_text r) };
+
+    fn fmt<W: fmt::Write>(&self, f: &mut fmt::Formatter<W>) -> fmt::Result {
+        write!(
+            f,
+            "refused {} {} {} {}",
+            self.number, self.place, self.cause, self.layer
+        )
+    }
+}
+
 // Takes the next word off, as a number.
 pub fn next_number(words: &mut Parts<'_>) -> Option<usize>
     ensures value { result ≡ number_first (parts_left words.old) }
     ensures after { parts_left words.new ≡ drop 1 (parts_left words.old) }
 {
-    match words.next_part() {
-        Some(word) => number(word),
-        None => None,
-    }
+    words.next().and_then(number)
 }
 
 // Takes the next two words off, as numbers.
@@ -45,7 +79,7 @@ pub fn read_refusal(words: Parts<'_>) -> Option<Refused>
     }
     let (number, place) = next_two(&mut rest)?;
     let (cause, layer) = next_two(&mut rest)?;
-    if rest.next_part().is_some() {
+    if rest.next().is_some() {
         return None;
     }
     Some(Refused {

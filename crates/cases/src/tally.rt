@@ -5,7 +5,7 @@ ghost use Rattle.cases.specs.Tallies.{no_cases, counted, together, tally_line};
 use std::fmt;
 
 // How many cases of a sort there were, and how many of them came out otherwise than expected.
-#[derive(Clone, Copy)]
+#[derive(Clone, Copy, Default)]
 pub struct Tally {
     pub cases: usize,
     pub differing: usize,
@@ -16,10 +16,7 @@ impl Tally {
     pub fn new() -> Tally
         ensures { result ≡ no_cases }
     {
-        Tally {
-            cases: 0,
-            differing: 0,
-        }
+        Tally::default()
     }
 
     // Counts one case more.
@@ -32,7 +29,7 @@ impl Tally {
         }
     }
 
-    // The cases of both.
+    // The cases of both. No `+`: the sum stays at the largest number.
     pub fn with(self, other: Tally) -> Tally
         ensures { result ≡ together self other }
     {

@@ -1,3 +1,4 @@
 mod Stating
 mod Answering
-mod Lining
+mod Telling
+mod Asking

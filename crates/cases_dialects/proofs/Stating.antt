@@ -1,15 +1,23 @@
 -- What states no outcome.
-use Rattle.std.proofs.Common.{◌≡◌, ℕ, Bool, false, List, ◌∷◌, drop, codes, Decides}
+use Rattle.std.proofs.Common.{◌≡◌, ℕ, Bool, false, List, ◌∷◌, drop, Some, None, Ok, Err, codes, Decides, MatchOption, Option, Result, subst, ap, ◌∙◌, arith}
+use Rattle.std.proofs.lemmas.List.{drop-drop}
 use Rattle.cases.specs.Outcomes.{Spells}
 use Rattle.cases.specs.declared.outcome.Refused.{Refused}
 use Rattle.cases_dialects.specs.Expected.{Expects}
-use Rattle.cases_dialects.specs.declared.outcome.Outcome.{Outcome}
-use Rattle.cases_dialects.specs.declared.outcome.Outcome.TheVariants.{Count, Refusal}
 use Rattle.std.proofs.lemmas.Bool.{both_ways}
 
 -- words that begin with another word than `ok`, and spell no refusal
 pub neither :
     (words after : List (List ℕ)) (r : Bool) → Decides r (words ≡ codes "ok" ∷ after) → after ≡ drop 1 words → r ≡ false
-    → ((x : Refused) → Spells words x → ⊥) → (x : Outcome) → Expects words x → ⊥
-neither words after r decides is other none (Count n) h = both_ways r other (decides.1 (rw is h.said))
-neither words after r decides is other none (Refusal x) h = none x h
+    → ((x : Refused) → Spells words x → ⊥) → (x : Result ℕ Refused) → Expects words x → ⊥
+neither words after r decides is other none (Ok n) h = both_ways r other (decides.1 (rw is h.said))
+neither words after r decides is other none (Err x) h = none x h
+
+-- the outcome that the words after two state
+pub stated :
+    (words after left : List (List ℕ)) (r : Option (Result ℕ Refused)) (x : Result ℕ Refused) → after ≡ drop 1 words → left ≡ drop 1 after
+    → MatchOption r ((y : Result ℕ Refused) → Expects left y → ⊥) (Expects left) → r ≡ Some x → Expects (drop 2 words) x
+stated words after left None x one two h is = absurd (let z : ◌≡◌ {A = ℕ} 0 1 = cc in omega arith)
+stated words after left (Some y) x one two h is =
+    let same : y ≡ x = cc in
+    subst (λ ws. Expects ws x) (two ∙ ap (drop 1) one ∙ drop-drop 1 1 words) (rw same at h)

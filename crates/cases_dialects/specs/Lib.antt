@@ -1,4 +1,3 @@
 pub mod Expected
 pub mod Bits
 pub mod Lines
-pub mod Runs

@@ -1,3 +1,1 @@
-mod Fronting
-mod Joining
 mod Lining

@@ -4,7 +4,7 @@ ghost use Rattle.cases_kinds.specs.Answers.{side_word, multiple_word, sign_word,
 ghost use Rattle.kinds.specs.Causes.{outcome};
 ghost use Rattle.numbers.specs.Kinds.{above_zero};
 
-use crate::line::LineFault;
+use cases::fault::LineFault;
 use kinds::number::{Number, read_number};
 use std::alloc::Global;
 use std::cmp::Ordering;
@@ -46,14 +46,9 @@ fn token_text<K: Number>(heap: Global, x: K) -> Result<String, LineFault>
     ensures { IfOk result (λ s. string_bytes s ≡ K.Number.kind.written x) }
 {
     let mut memory = [0_u8; ROOM];
-    let Some(length) = x.write(&mut memory) else {
-        return Err(LineFault::Unreadable);
-    };
-    let Ok(token) = from_utf8(&memory[0..length]) else {
-        return Err(LineFault::Unreadable);
-    };
-    let text = String::from_str(heap, token)?;
-    Ok(text)
+    let length = x.write(&mut memory).ok_or(LineFault::Unreadable)?;
+    let token = from_utf8(&memory[..length])?;
+    Ok(String::from_str(heap, token)?)
 }
 
 // What reading a token comes to: `ok WRITTEN SIGN`, or `outside CAUSE`.
@@ -64,13 +59,11 @@ pub(crate) fn reading<K: Number>(heap: Global, token: &[u8]) -> Result<String, L
         Ok(x) => {
             let written = token_text(heap, x)?;
             let sign = sign(x);
-            let text = format!(in heap; "ok {written} {sign}")?;
-            Ok(text)
+            Ok(format!(in heap; "ok {written} {sign}")?)
         }
         Err(cause) => {
             let number = cause.number();
-            let text = format!(in heap; "outside {number}")?;
-            Ok(text)
+            Ok(format!(in heap; "outside {number}")?)
         }
     }
 }
@@ -79,14 +72,9 @@ pub(crate) fn reading<K: Number>(heap: Global, token: &[u8]) -> Result<String, L
 pub(crate) fn comparing<K: Number>(heap: Global, x: &[u8], y: &[u8]) -> Result<String, LineFault>
     ensures { IfOk result (λ s. Compares K.Number.kind (outcome K.Number.kind x.now) (outcome K.Number.kind y.now) (string_bytes s)) }
 {
-    let Ok(x) = read_number::<K>(x) else {
-        return Err(LineFault::Unreadable);
-    };
-    let Ok(y) = read_number::<K>(y) else {
-        return Err(LineFault::Unreadable);
-    };
+    let x = read_number::<K>(x).map_err(|_| LineFault::Unreadable)?;
+    let y = read_number::<K>(y).map_err(|_| LineFault::Unreadable)?;
     let side = side(x.compare(y));
     let multiple = multiple(x, y);
-    let text = format!(in heap; "{side} {multiple}")?;
-    Ok(text)
+    Ok(format!(in heap; "{side} {multiple}")?)
 }

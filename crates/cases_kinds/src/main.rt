@@ -2,25 +2,11 @@
 #![tactic(auto)]
 
 mod answers;
-mod line;
-mod run;
+mod sorts;
 
-use crate::run::run;
-use anyhow::anyhow;
-use std::io::Read;
-
-fn report(rt: &HostRuntime) -> anyhow::Result<()> {
-    let mut input = Vec::new(rt.alloc());
-    rt.stdin().read_to_end(&mut input)?;
-    match run(rt.alloc(), input.as_slice()) {
-        Ok(text) => {
-            rt.print(text.as_str())?;
-            Ok(())
-        }
-        Err(_) => Err(anyhow!("out of memory")),
-    }
-}
+use crate::sorts::KindSort;
+use cases_runs::program::report;
 
 fn main(rt: HostRuntime) -> anyhow::Result<()> {
-    report(&rt)
+    report::<KindSort, _>(&rt)
 }

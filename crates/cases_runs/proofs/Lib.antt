@@ -2,3 +2,4 @@ mod Joining
 mod Lining
 mod Noting
 mod Reporting
+mod Spelling

@@ -1,7 +1,7 @@
 -- The words of the number kinds.
 use Rattle.std.specs.Prelude.{◌≡◌, ℕ, List, ◌∷◌, Ok, Err, codes, Result, ◌≢◌}
-use Rattle.cases_runs.specs.declared.fault.LineFault.{LineFault}
-use Rattle.cases_runs.specs.declared.fault.LineFault.TheVariants.{Unreadable}
+use Rattle.cases.specs.declared.fault.LineFault.{LineFault}
+use Rattle.cases.specs.declared.fault.LineFault.TheVariants.{Unreadable}
 use Rattle.cases_runs.specs.declared.kind.NumberKind.{NumberKind}
 use Rattle.cases_runs.specs.declared.kind.NumberKind.TheVariants.{Whole, Decimal}
 

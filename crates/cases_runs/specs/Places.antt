@@ -2,7 +2,7 @@
 use Rattle.std.specs.Prelude.{◌≡◌, ℕ, List, Some, string_bytes}
 use Rattle.std.specs.List.{slice_get}
 use Rattle.cases_runs.specs.Runs.{Judged}
-use Rattle.cases_runs.specs.declared.run.Ran.{Ran}
+use Rattle.cases_runs.specs.declared.report.Ran.{Ran}
 
 -- the lines of the sort at a place begin with this word
 abbrev pub Names : {S : Type 0} → List S → (S → List ℕ) → List ℕ → ℕ → S → Type 0

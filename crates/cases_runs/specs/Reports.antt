@@ -1,6 +1,6 @@
 -- What a report says of the lines that were run.
 use Rattle.std.specs.Prelude.{ℕ, suc, List, [], ◌∷◌, ◌++◌, Some, None, codes, decimal, Option}
-use Rattle.std.specs.List.{slice_get}
+use Rattle.std.specs.List.{slice_get, fold}
 use Rattle.cases.specs.Tallies.{no_cases, together, tally_line}
 use Rattle.cases.specs.declared.tally.Tally.{Tally}
 
@@ -23,13 +23,9 @@ abbrev pub count_lines : (ℕ → List ℕ) → ℕ → List Tally → List ℕ
 count_lines name place [] = []
 count_lines name place (t ∷ ts) = count_line (name place) t ++ count_lines name (suc place) ts
 
--- all the cases, after some
-abbrev pub total_after : Tally → List Tally → Tally
-total_after sum [] = sum
-total_after sum (t ∷ ts) = total_after (together sum t) ts
-
+-- all the cases
 abbrev pub total : List Tally → Tally
-total ts = total_after no_cases ts
+total ts = fold together no_cases ts
 
 -- a line for each sort, and last the line of them all
 abbrev pub counts_text : (ℕ → List ℕ) → List Tally → List ℕ

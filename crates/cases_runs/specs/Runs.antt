@@ -4,7 +4,7 @@ use Rattle.std.specs.List.{slice_get}
 use Rattle.cases.specs.Splits.{split}
 use Rattle.cases.specs.Tallies.{sum, no_cases, counted}
 use Rattle.cases.specs.declared.tally.Tally.{Tally}
-use Rattle.cases_runs.specs.Words.{number_first}
+use Rattle.cases.specs.Outcomes.{number_first}
 use Rattle.cases_runs.specs.Reports.{name_at, counts_text, differing_line, unread_line}
 
 -- the last part of an input is a line unless it is empty

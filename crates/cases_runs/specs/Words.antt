@@ -3,21 +3,16 @@ use Rattle.std.specs.Prelude.{◌≡◌, ℕ, List, [], ◌∷◌, drop, Some, N
 use Rattle.std.specs.Borrow.{Bor}
 use Rattle.std.specs.declared.alloc.Global.{Global}
 use Rattle.cases.specs.Bytes.{bytes_of}
-use Rattle.cases.specs.Numbers.{number_of}
-use Rattle.cases_runs.specs.declared.fault.LineFault.{LineFault}
-use Rattle.cases_runs.specs.declared.fault.LineFault.TheVariants.{Unreadable, OutOfMemory}
+use Rattle.cases.specs.Outcomes.{number_first}
+use Rattle.cases.specs.declared.fault.LineFault.{LineFault}
+use Rattle.cases.specs.declared.fault.LineFault.TheVariants.{Unreadable, OutOfMemory}
 
 -- the first word comes and the others stay; a line with no word left can't be read
 abbrev pub TakesWord : List (List ℕ) → Result (Bor (List ℕ)) LineFault → List (List ℕ) → Type 0
 TakesWord before (Ok word) after = before ≡ word.now ∷ after
 TakesWord before (Err fault) after = (before ≡ []) × (fault ≡ Unreadable)
 
--- the number that the first word writes
-abbrev pub number_first : List (List ℕ) → Option ℕ
-number_first [] = None
-number_first (w ∷ ws) = number_of w
-
--- the same, as the number that the word writes
+-- the first word comes as the number that it writes, and the others stay
 abbrev pub TakesNumber : List (List ℕ) → Result ℕ LineFault → List (List ℕ) → Type 0
 TakesNumber before (Ok n) after = (number_first before ≡ Some n) × (after ≡ drop 1 before)
 TakesNumber before (Err fault) after = (number_first before ≡ None) × (fault ≡ Unreadable)

@@ -2,7 +2,8 @@
 ghost use Rattle.cases.specs.Lefts.{parts_left};
 ghost use Rattle.cases_runs.specs.Kinds.{TakesKind};
 
-use crate::fault::LineFault;
+use crate::words::take_word;
+use cases::fault::LineFault;
 use cases::parts::Parts;
 
 #[derive(Clone, Copy)]
@@ -15,12 +16,9 @@ pub enum NumberKind {
 pub fn take_kind(words: &mut Parts<'_>) -> Result<NumberKind, LineFault>
     ensures { TakesKind (parts_left words.old) result (parts_left words.new) }
 {
-    let mut other = *words;
-    if words.next_is(b"whole") {
-        return Ok(NumberKind::Whole);
+    match take_word(words)? {
+        b"whole" => Ok(NumberKind::Whole),
+        b"decimal" => Ok(NumberKind::Decimal),
+        _ => Err(LineFault::Unreadable),
     }
-    if other.next_is(b"decimal") {
-        return Ok(NumberKind::Decimal);
-    }
-    Err(LineFault::Unreadable)
 }

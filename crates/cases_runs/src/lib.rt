@@ -1,10 +1,9 @@
-// What a program that runs test vectors can stand on: the words of their lines, the run of all lines, and its report. None does yet.
+// What a program that runs test vectors stands on: the words of their lines, the run of all lines, and its report.
 #![tactic(auto)]
 
-pub mod fault;
 pub mod kind;
+mod lines;
 pub mod program;
-pub mod refusal;
 mod report;
 pub mod run;
 pub mod sort;

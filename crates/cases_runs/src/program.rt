@@ -5,14 +5,10 @@ use anyhow::anyhow;
 use std::io::Read;
 
 // No contract speaks of what is read and printed; `run` says what the report is.
-pub fn report<S: Sort>(rt: &HostRuntime) -> anyhow::Result<()> {
+pub fn report<S: Sort, R: Input + Print + AllocGlobal>(rt: &R) -> anyhow::Result<()> {
     let mut input = Vec::new(rt.alloc());
-    rt.stdin().read_to_end(&mut input)?;
-    match run::<S>(rt.alloc(), input.as_slice()) {
-        Ok(text) => {
-            rt.print(text.as_str())?;
-            Ok(())
-        }
-        Err(_) => Err(anyhow!("out of memory")),
-    }
+    rt.reader().read_to_end(&mut input)?;
+    let text = run::<S>(rt.alloc(), input.as_slice()).map_err(|_| anyhow!("out of memory"))?;
+    rt.print(text.as_str())?;
+    Ok(())
 }

@@ -1,9 +1,8 @@
 // The sorts of case that a program runs.
 ghost use Rattle.std.specs.Prelude.{◌≡◌, ℕ, ◌<◌, not, List, length, IfOk, string_bytes, Decides};
-ghost use Rattle.std.specs.List.{slice_get};
 ghost use Rattle.cases.specs.Lefts.{parts_left};
 
-use crate::fault::LineFault;
+use cases::fault::LineFault;
 use cases::parts::Parts;
 use std::alloc::Global;
 
@@ -24,7 +23,7 @@ impl Case {
 }
 
 // A sort of case, by the first word of its lines.
-pub trait Sort: Sized + Copy {
+pub trait Sort: Copy + 'static {
     // the sorts of the program, in the order of its report
     ghost sorts: { List Self };
 
@@ -33,13 +32,9 @@ pub trait Sort: Sized + Copy {
     // what is expected and what comes, of the words after the tag
     ghost comes: { Self → List (List ℕ) → List ℕ → List ℕ → Type 0 };
 
-    // How many sorts there are.
-    fn count() -> usize
-        ensures { (result ≡ length sorts) × (result < 256) };
-
-    // The sort at a place of the report.
-    fn at(place: usize) -> Option<Self>
-        ensures { result ≡ slice_get sorts place };
+    // All the sorts.
+    fn all() -> &'static [Self]
+        ensures { (result.now ≡ sorts) × (length result.now < 256) };
 
     // The first word of its lines.
     fn name(self) -> &'static str

@@ -4,9 +4,9 @@ ghost use Rattle.cases.specs.Lefts.{parts_left};
 ghost use Rattle.cases.specs.Splits.{joined_by};
 ghost use Rattle.cases_runs.specs.Words.{TakesWord, TakesNumber, TakesBytes};
 
-use crate::fault::LineFault;
 use cases::bytes::read_bytes;
-use cases::numeral::number;
+use cases::fault::LineFault;
+use cases::outcome::next_number;
 use cases::parts::Parts;
 use std::alloc::Global;
 use std::str::from_utf8;
@@ -15,43 +15,28 @@ use std::str::from_utf8;
 pub fn take_word<'a>(words: &mut Parts<'a>) -> Result<&'a [u8], LineFault>
     ensures { TakesWord (parts_left words.old) result (parts_left words.new) }
 {
-    match words.next_part() {
-        Some(word) => Ok(word),
-        None => Err(LineFault::Unreadable),
-    }
+    words.next().ok_or(LineFault::Unreadable)
 }
 
 // Takes the next word off, as a number.
 pub fn take_number(words: &mut Parts<'_>) -> Result<usize, LineFault>
     ensures { TakesNumber (parts_left words.old) result (parts_left words.new) }
 {
-    match words.next_part() {
-        Some(word) => number(word).ok_or(LineFault::Unreadable),
-        None => Err(LineFault::Unreadable),
-    }
+    next_number(words).ok_or(LineFault::Unreadable)
 }
 
 // Takes the next word off, as bytes.
 pub fn take_bytes(heap: Global, words: &mut Parts<'_>) -> Result<Vec<u8>, LineFault>
     ensures { TakesBytes (parts_left words.old) result (parts_left words.new) }
 {
-    match words.next_part() {
-        Some(word) => {
-            let bytes = read_bytes(heap, word)?;
-            Ok(bytes)
-        }
-        None => Err(LineFault::Unreadable),
-    }
+    read_bytes(heap, take_word(words)?)
 }
 
 // Adds a word to a text.
 fn push_word(text: &mut String, word: &[u8]) -> Result<(), LineFault>
     ensures { OnOk result (string_bytes text.new ≡ string_bytes text.old ++ word.now) }
 {
-    let Ok(word) = from_utf8(word) else {
-        return Err(LineFault::Unreadable);
-    };
-    text.push_str(word)?;
+    text.push_str(from_utf8(word)?)?;
     Ok(())
 }
 
@@ -60,12 +45,9 @@ pub fn rest_of(heap: Global, words: Parts<'_>) -> Result<String, LineFault>
     ensures { IfOk result (λ s. string_bytes s ≡ joined_by 32 (parts_left words.entry)) }
 {
     let mut rest = words;
-    let Some(first) = rest.next_part() else {
-        return Err(LineFault::Unreadable);
-    };
     let mut text = String::new(heap);
-    push_word(&mut text, first)?;
-    while let Some(word) = rest.next_part() {
+    push_word(&mut text, take_word(&mut rest)?)?;
+    for word in rest {
         text.push_str(" ")?;
         push_word(&mut text, word)?;
     }

@@ -1,10 +1,8 @@
-use Rattle.std.proofs.Common.{◌≡◌, length, Some, vec_items}
-use Rattle.cases.specs.Bytes.{both, pairs}
+use Rattle.std.proofs.Common.{◌≡◌, drop, Some, vec_items}
+use Rattle.cases.specs.Bytes.{both, hex_bytes}
+use Rattle.cases.proofs.Hexing.{chunk_bytes}
 use Rattle.cases.proofs.bytes.hex.Given as goal
 
--- what is read so far and what is left make up the whole
-abbrev pub invariant-loop-rest : goal.invariant-loop-rest
-invariant-loop-rest l = both (Some (vec_items l.bytes)) (pairs l.rest) ≡ pairs l.digits
-
-abbrev pub decreases-loop-rest : goal.decreases-loop-rest
-decreases-loop-rest l = length l.rest
+-- what is read so far and the pairs that are left make up the whole
+abbrev pub invariant-loop-high : goal.invariant-loop-high
+invariant-loop-high l = both (Some (vec_items l.bytes)) (chunk_bytes (drop l.high-index l.pairs)) ≡ hex_bytes l.digits

@@ -1,13 +1,16 @@
-use Rattle.std.proofs.Common.{string_bytes}
-use Rattle.cases_runs.specs.Reports.{name_at}
+use Rattle.std.proofs.Common.{◌≡◌, ◌++◌, get_or, string_bytes, rules}
+use Rattle.cases.specs.Tallies.{no_cases}
+use Rattle.cases_runs.specs.Reports.{name_at, count_line}
 use Rattle.cases_runs.proofs.Reporting.{lines_more, lines_done}
 use Rattle.cases_runs.proofs.report.count_lines.Goals as goal
 
 pub loop-place-preserved : goal.loop-place-preserved
 loop-place-preserved g c =
-    lines_more (name_at g.S.Sort.sorts g.S.Sort.word) (string_bytes c.loop-place.text) c.name_at.result.now (string_bytes c.in_ok-count_line.field-0) c.as_str.result.now
-    (string_bytes c.push_str.new.self) _ _ c.args.tallies.now c.loop-place.place c.loop-place-test.true c.name_at.ensures c.in_ok-count_line.ensures
-    c.as_str.ensures.value c.in_ok-push_str.ensures.bytes c.loop-place.invariant
+    let wrote :
+    string_bytes c.writeln.new.self
+    ≡ string_bytes c.loop-place.text ++ count_line c.name_at-name.result.now (get_or c.args.tallies.now c.loop-place.place no_cases) = search rules in
+    lines_more (name_at g.S.Sort.sorts g.S.Sort.word) (string_bytes c.loop-place.text) c.name_at-name.result.now (string_bytes c.writeln.new.self) _ no_cases c.args.tallies.now
+    c.loop-place.place c.loop-place-test.true c.name_at-name.ensures wrote c.loop-place.invariant
 
 pub returns : goal.returns
 returns g c =

@@ -6,4 +6,4 @@ use Rattle.cases_runs.proofs.report.count_lines.Given as goal
 abbrev pub invariant-loop-place : goal.invariant-loop-place
 invariant-loop-place g l =
     string_bytes l.text ++ count_lines (name_at g.S.Sort.sorts g.S.Sort.word) l.place (drop l.place l.tallies)
-    ≡ count_lines (name_at g.S.Sort.sorts g.S.Sort.word) 0 l.tallies
+    ≡ string_bytes l.initial.text ++ count_lines (name_at g.S.Sort.sorts g.S.Sort.word) 0 l.tallies
