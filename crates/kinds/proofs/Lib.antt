@@ -1,6 +1,3 @@
 mod Decimals
 mod Integers
-mod Puts
-mod Reading
-mod Taking
 mod Wholes

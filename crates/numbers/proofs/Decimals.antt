@@ -2,7 +2,7 @@
 use Rattle.std.proofs.Common.{◌≡◌, ℕ, ◌+◌, ◌/◌, ◌%◌, ◌^◌, ◌<◌, ◌≤◌, cond, ◌&&◌, leb, List, [], ◌∷◌, ◌++◌, length, ℤ, pos, nat_abs, Some, None, decimal, Option, sym, refl, ap, ◌∙◌, subst, inl, inr, ⊎_elim, arith, length-append}
 use Rattle.std.proofs.lemmas.List.{append-nil}
 use Rattle.std.proofs.lemmas.Str.Parse.{digits_value_short}
-use Rattle.std.proofs.lemmas.Bool.{and_parts, and_from, and_left, and_right, cond-true, cond-false, leb-true, le-leb, lt-leb}
+use Rattle.std.proofs.lemmas.Bool.{and_parts, and_from, cond-true, leb-true, le-leb}
 use Rattle.numbers.specs.Grammar.{Digits, SomeDigits, Frac, Optional}
 use Rattle.numbers.specs.Kinds.{Kept}
 use Rattle.numbers.specs.Values.{number, places, signed_by, in_millionths, Fixed, MeansDecimal}
@@ -171,11 +171,3 @@ decimal_lawful = record {
       let w = written_means bs x m in
       ((w.parts, w.token), written_short bs x m, (decimal_reads (fixed_written x) x).1 w);
 }
-
--- what a reader finds step by step
-module _ (p : Plain) where
-  pub unsuited_many : 12 < length p.int + length p.places → decimal_of (Some p) ≡ None
-  unsuited_many h = cond-false _ _ _ (and_left (leb (length p.int + length p.places) 12) _ (lt-leb _ _ h))
-
-  pub unsuited_fine : 6 < length p.places → decimal_of (Some p) ≡ None
-  unsuited_fine h = cond-false _ _ _ (and_right (leb (length p.int + length p.places) 12) _ (lt-leb _ _ h))

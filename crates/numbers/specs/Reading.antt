@@ -3,7 +3,7 @@ use Rattle.std.specs.Prelude.{ℕ, ◌+◌, ◌/◌, ◌%◌, ◌^◌, Bool, tru
 use Rattle.std.specs.declared.cmp.Ordering.TheVariants.{Less, Equal, Greater}
 use Rattle.std.specs.declared.cmp.Ordering.{Ordering}
 use Rattle.std.specs.Fmt.{signed_decimal}
-use Rattle.std.specs.List.{prefix_len}
+use Rattle.std.specs.List.{prefix_len, list_all}
 use Rattle.numbers.specs.Kinds.{Kind}
 use Rattle.numbers.specs.Values.{number, in_millionths, Fixed}
 
@@ -30,7 +30,7 @@ well_begun (b ∷ bs) = nat_lt 0x30 b || length bs == 0
 
 -- digits alone, one at least
 abbrev pub only_digits : List ℕ → Bool
-only_digits bs = nat_lt 0 (length bs) && digit_count bs == length bs
+only_digits bs = nat_lt 0 (length bs) && list_all is_digit bs
 
 -- the token of these digits, and of what follows them: nothing, or a point and digits
 abbrev pub with_rest : Bool → List ℕ → List ℕ → Option Plain
