@@ -43,7 +43,7 @@ pub(crate) fn of_reading(reading: Result<usize, PatternFault>) -> Outcome
                 number: usize::from(refusal.number),
                 place: refusal.place,
                 cause: 0,
-                layer: usize::from(refusal.layer.number()),
+                layer: usize::from(u8::from(refusal.layer)),
             })
         }
     }

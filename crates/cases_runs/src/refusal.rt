@@ -11,6 +11,6 @@ pub fn refusal_text(heap: Global, refusal: Refusal, cause: u8) -> Result<String,
 {
     let number = refusal.number;
     let place = refusal.place;
-    let layer = refusal.layer.number();
+    let layer = u8::from(refusal.layer);
     format!(in heap; "refused {number} {place} {cause} {layer}")
 }

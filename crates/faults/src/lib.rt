@@ -1,9 +1,10 @@
 // What every refused call tells: a number, a place and a layer.
 #![tactic(auto)]
 
-ghost use Rattle.std.specs.Prelude.{◌≡◌, Some};
+ghost use Rattle.std.specs.Prelude.{◌≡◌, ◌∷◌, [], ◌++◌, Some, IfOk};
 ghost use Rattle.faults.specs.Refusals.{layer_number, refusal_line};
 
+use std::alloc::{AllocError, Global};
 use std::fmt;
 
 // The part of the house that refuses.
@@ -29,12 +30,12 @@ pub struct Refusal {
     pub layer: Layer,
 }
 
-impl Layer {
-    // The number by which a layer is reported.
-    pub fn number(self) -> u8
-        ensures { result ≡ layer_number self }
-    {
-        match self {
+// The number by which a layer is reported.
+impl From<Layer> for u8 {
+    ghost from_gives = { λ layer n. n ≡ layer_number layer };
+
+    fn from(layer: Layer) -> u8 {
+        match layer {
             Layer::Kind => 1,
             Layer::Text => 2,
             Layer::Book => 3,
@@ -44,13 +45,19 @@ impl Layer {
     }
 }
 
-// The line that a program prints in place of its answers.
+impl Refusal {
+    // The line that a program prints in place of its answers, with its line feed.
+    pub fn line(self, heap: Global) -> Result<Vec<u8>, AllocError>
+        ensures { IfOk result (λ v. v.items ≡ refusal_line self ++ (10 ∷ [])) }
+    {
+        Ok(format!(in heap; "{self}\n")?.into_bytes())
+    }
+}
+
 impl fmt::Display for Refusal {
     ghost output = { λ r. Some (refusal_line r) };
 
     fn fmt<W: fmt::Write>(&self, f: &mut fmt::Formatter<W>) -> fmt::Result {
-        let number = self.number;
-        let place = self.place;
-        write!(f, "refused {number} at {place}")
+        write!(f, "refused {} at {}", self.number, self.place)
     }
 }

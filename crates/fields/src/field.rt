@@ -1,6 +1,9 @@
 // A field: one byte of tag, two bytes of length with the high byte first, then a body of that many bytes.
 ghost use Rattle.fields.specs.Fields.{Splits};
 
+// No file is longer than this.
+pub const LONGEST_FILE: usize = 65535;
+
 // The field that bytes begin with, and what comes after it.
 #[derive(Clone, Copy)]
 pub struct Field<'a> {
@@ -25,11 +28,8 @@ pub fn split_field(bytes: &[u8]) -> Result<Field<'_>, CutShort>
     let [tag, high, low, after @ ..] = bytes else {
         return Err(CutShort::Head);
     };
-    let length = usize::from(*high) * 256 + usize::from(*low);
-    if after.len() < length {
-        return Err(CutShort::Body(*tag));
-    }
-    let (body, rest) = after.split_at(length);
+    let length = usize::from(u16::from_be_bytes([*high, *low]));
+    let (body, rest) = after.split_at_checked(length).ok_or(CutShort::Body(*tag))?;
     Ok(Field {
         tag: *tag,
         body,

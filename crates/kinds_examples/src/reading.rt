@@ -7,24 +7,23 @@ use std::test::Fail;
 
 // The number of the cause that refuses a token, or 0.
 fn cause<K: Number + Drop>(token: &[u8]) -> u8 {
-    let read: Result<K, Cause> = read_number(token);
-    match read {
-        Ok(_) => 0,
-        Err(cause) => cause.number(),
-    }
+    read_number::<K>(token).err().map_or(0, u8::from)
+}
+
+// The token that a number is written as, in memory of 20 bytes.
+fn written<K: Number>(number: K, out: &mut [u8; 20]) -> Option<&[u8]> {
+    let length = number.write(out)?;
+    out.get(..length)
 }
 
 // Whether a token is read and written as these bytes.
 fn is_written<K: Number>(token: &[u8], expected: &[u8]) -> bool {
-    let read: Result<K, Cause> = read_number(token);
     let mut out = [0u8; 20];
-    match read {
-        Ok(number) => match number.write(&mut out) {
-            Some(length) => length <= 20 && &out[0..length] == expected,
-            None => false,
-        },
-        Err(_) => false,
-    }
+    read_number::<K>(token)
+        .ok()
+        .and_then(|number| number.write(&mut out))
+        .and_then(|length| out.get(..length))
+        .is_some_and(|bytes| bytes == expected)
 }
 
 #[test]

@@ -1,4 +1,5 @@
-// Lists of numbers of one kind.
+// Lists that grow over lent memory.
 #![tactic(auto)]
 
-pub mod numbers;
+pub mod filling;
+pub mod lent;

@@ -4,3 +4,4 @@ pub mod Meaning
 pub mod Clear
 pub mod Theorems
 pub mod Examples
+pub mod Types
