@@ -10,12 +10,6 @@ fn cause<K: Number + Drop>(token: &[u8]) -> u8 {
     read_number::<K>(token).err().map_or(0, u8::from)
 }
 
-// The token that a number is written as, in memory of 20 bytes.
-fn written<K: Number>(number: K, out: &mut [u8; 20]) -> Option<&[u8]> {
-    let length = number.write(out)?;
-    out.get(..length)
-}
-
 // Whether a token is read and written as these bytes.
 fn is_written<K: Number>(token: &[u8], expected: &[u8]) -> bool {
     let mut out = [0u8; 20];
