@@ -1,18 +1,10 @@
 // Reads a row from its ten bytes.
 ghost use Rattle.std.specs.Prelude.{◌≡◌};
 ghost use Rattle.std.specs.List.{slice_get};
-ghost use Rattle.rules.specs.Types.{types};
 ghost use Rattle.rows.specs.Rows.{ReadsRow, row_of, row_from, booleans, unended, alone as alone_from, first_alone, second_alone, range_from, range_alone, bounds_alone};
 
 use crate::fields::{Ends, Fields, fields_of};
 use rules::row::{Bounds, Range, Row, ValueType};
-
-// The type of this number.
-fn type_of(number: u16) -> Option<ValueType>
-    ensures { result ≡ slice_get types number }
-{
-    ValueType::try_from(number).ok()
-}
 
 // The boolean of this number.
 fn boolean_of(number: u16) -> Option<bool>
@@ -93,7 +85,7 @@ impl Fields {
         match self.operator {
             1 => self.alone(Row::True),
             2 => self.alone(Row::False),
-            3 => Some(Row::OfType(type_of(self.first_alone()?)?)),
+            3 => Some(Row::OfType(ValueType::try_from(self.first_alone()?).ok()?)),
             4 => Some(Row::BooleanIs(boolean_of(self.first_alone()?)?)),
             5 => Some(Row::Pattern(self.first_alone()?)),
             6 => Some(Row::NotPattern(self.first_alone()?)),
