@@ -1,3 +1,4 @@
 mod Decimals
+mod Folding
 mod Integers
 mod Wholes

@@ -80,9 +80,5 @@ pub(crate) fn number_of(digits: &[u8]) -> u64
     requires { (Digits digits.now) × (length digits.now ≤ 18) }
     ensures { result ≡ number_of digits.now }
 {
-    let mut n: u64 = 0;
-    for d in digits {
-        n = n * 10 + u64::from(*d - b'0');
-    }
-    n
+    digits.iter().fold(0, |n, d| n * 10 + u64::from(*d - b'0'))
 }
