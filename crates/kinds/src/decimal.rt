@@ -14,6 +14,8 @@ use crate::writing::{fraction_length, minus, pointed, write_parts};
 use itoa::Buffer;
 use std::cmp::Ordering;
 
+const MILLION: u64 = 1_000_000;
+
 // A decimal, counted in millionths; it is written with as many places as it was read with.
 #[derive(Clone, Copy)]
 pub struct Decimal {
@@ -67,7 +69,7 @@ impl Number for Decimal {
     }
 
     fn token_length(self) -> usize {
-        let ones = self.millionths.unsigned_abs() / 1_000_000;
+        let ones = self.millionths.unsigned_abs() / MILLION;
         minus(self.millionths).len()
             + Buffer::new().format(ones).len()
             + fraction_length(self.places)
@@ -76,8 +78,8 @@ impl Number for Decimal {
     fn write(self, out: &mut [u8]) -> Option<usize> {
         let magnitude = self.millionths.unsigned_abs();
         let mut buffer = Buffer::new();
-        let ones = buffer.format(magnitude / 1_000_000);
-        let fraction = pointed(magnitude % 1_000_000);
+        let ones = buffer.format(magnitude / MILLION);
+        let fraction = pointed(magnitude % MILLION);
         write_parts(
             minus(self.millionths).as_bytes(),
             ones.as_bytes(),
@@ -110,5 +112,5 @@ fn in_millionths(int: &[u8], places: &[u8]) -> u64
     ensures small { result < 2 ^ 63 }
 {
     let scale = 10_u64.pow(6 - places.len() as u32);
-    number_of(int) * 1_000_000 + number_of(places) * scale
+    number_of(int) * MILLION + number_of(places) * scale
 }

@@ -50,7 +50,7 @@ pub trait Number: Sized + Copy {
     fn zero() -> Self
         ensures { result ≡ kind.zero };
 
-    // How this value stands to another: before it, level with it, or after it.
+    // How this value stands to another: before it, level with it, or after it. Level values may differ, as 1.0 and 1.00 do, so this is no `Ord`.
     fn compare(self, other: Self) -> Ordering
         ensures { result ≡ kind.compare self other };
 

@@ -24,7 +24,7 @@ record From (o : Option Plain) (x : Fixed) : Type 0 where
   count : x.places ≡ length plain.places
 
 from : (o : Option Plain) (x : Fixed) → decimal_of o ≡ Some x → From o x
-from None x h = let e : ◌≡◌ {A = ℕ} 0 1 = cc in absurd (omega arith)
+from None x h = cc
 from (Some p) x h =
     let s = some_if (leb (length p.int + length p.places) 12 && leb (length p.places) 6) _ x h in
     let t = and_parts (leb (length p.int + length p.places) 12) _ s.0 in

@@ -9,7 +9,7 @@ use Rattle.numbers.proofs.Digits.{Stops, count_digits, front_digits, all_digits,
 
 pub some_if : {X : Type 0} (b : Bool) (x y : X) → cond b (Some x) None ≡ Some y → (b ≡ true) × (x ≡ y)
 some_if true x y h = (refl, cc)
-some_if false x y h = let z : ◌≡◌ {A = ℕ} 0 1 = cc in absurd (omega arith)
+some_if false x y h = cc
 
 -- whether there is a minus
 abbrev pub is_some : List ℕ → Bool
@@ -43,7 +43,7 @@ int_begins (b ∷ bs) h =
     h
 
 pub begun_int : (bs : List ℕ) → Digits bs → well_begun bs ≡ true → Int bs
-begun_int [] h e = let z : ◌≡◌ {A = ℕ} 0 1 = cc in absurd (omega arith)
+begun_int [] h e = cc
 begun_int (b ∷ bs) h e =
     ⊎_elim
     (λ (l : ltb 0x30 b ≡ true). inr ((omega (arith, ltb-true 0x30 b l), omega arith), h.1))
@@ -60,7 +60,7 @@ only_yes [] h = absurd h
 only_yes (b ∷ bs) h = and_from _ _ (lt-ltb 0 (length (b ∷ bs)) (omega arith)) (digits_all (b ∷ bs) h)
 
 yes_only : (bs : List ℕ) → only_digits bs ≡ true → SomeDigits bs
-yes_only [] h = let z : ◌≡◌ {A = ℕ} 0 1 = cc in absurd (omega arith)
+yes_only [] h = cc
 yes_only (b ∷ bs) h = all_digits (b ∷ bs) (and_parts (ltb 0 (length (b ∷ bs))) _ h).1
 
 -- from the grammar to the parts that are found
@@ -139,7 +139,7 @@ is_number m bs p f = record {
     sign false = inl refl
 
 pub found_parts : (bs : List ℕ) (p : Plain) → taken_apart bs ≡ Some p → Number bs (parts_of p)
-found_parts [] p e = let z : ◌≡◌ {A = ℕ} 0 1 = cc in absurd (omega arith)
+found_parts [] p e = cc
 found_parts (b ∷ bs) p e =
     ⊎_elim
     (λ (t : eqb b 0x2D ≡ true).

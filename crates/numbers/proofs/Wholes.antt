@@ -23,7 +23,7 @@ record From (o : Option Plain) (z : ℤ) : Type 0 where
   value : z ≡ signed_if plain.minus (number plain.int)
 
 from : (o : Option Plain) (z : ℤ) → whole_of o ≡ Some z → From o z
-from None z h = let e : ◌≡◌ {A = ℕ} 0 1 = cc in absurd (omega arith)
+from None z h = cc
 from (Some p) z h =
     let s = some_if (eqb (length p.places) 0 && leb (number p.int) (10 ^ 15)) _ z h in
     let t = and_parts (eqb (length p.places) 0) _ s.0 in

@@ -31,30 +31,30 @@ module _ {A : Type 0} where
   each_at P (x ∷ xs) (suc n) d h past = each_at (λ k. P (suc k)) xs n d h.1 (λ k. past (suc k))
 
   each_nth : (P : ℕ → A → Type 0) (xs : List A) (n : ℕ) (x : A) → Each P xs → slice_get xs n ≡ Some x → P n x
-  each_nth P [] n x h e = let z : ◌≡◌ {A = ℕ} 0 1 = cc in absurd (omega arith)
+  each_nth P [] n x h e = cc
   each_nth P (y ∷ xs) zero x h e = let same : y ≡ x = cc in subst (P 0) same h.0
   each_nth P (y ∷ xs) (suc n) x h e = each_nth (λ k. P (suc k)) xs n x h.1 e
 
 when_some : {A : Type 0} (b : Bool) (x y : A) → then_some b x ≡ Some y → (b ≡ true) × (x ≡ y)
 when_some true x y h = (refl, cc)
-when_some false x y h = let z : ◌≡◌ {A = ℕ} 0 1 = cc in absurd (omega arith)
+when_some false x y h = cc
 
 pub cond_none : {A : Type 0} (b : Bool) (o : Option A) (y : A) → cond b o None ≡ Some y → (b ≡ true) × (o ≡ Some y)
 cond_none true o y h = (refl, h)
-cond_none false o y h = let z : ◌≡◌ {A = ℕ} 0 1 = cc in absurd (omega arith)
+cond_none false o y h = cc
 
 mapped_some : {A B : Type 0} (g : A → B) (o : Option A) (y : B) → option_map g o ≡ Some y → (x : A) × (o ≡ Some x) × (g x ≡ y)
-mapped_some g None y h = let z : ◌≡◌ {A = ℕ} 0 1 = cc in absurd (omega arith)
+mapped_some g None y h = cc
 mapped_some g (Some x) y h = (x, refl, cc)
 
 flat_some : {A : Type 0} (o : Option (Option A)) (y : A) → option_flatten o ≡ Some y → o ≡ Some (Some y)
-flat_some None y h = let z : ◌≡◌ {A = ℕ} 0 1 = cc in absurd (omega arith)
+flat_some None y h = cc
 flat_some (Some p) y h = ap Some h
 
 both_absent : (lower upper : Option ℕ) → (not (is_some lower) && not (is_some upper)) ≡ true → ends lower upper ≡ no_ends
 both_absent None None h = refl
-both_absent None (Some u) h = let z : ◌≡◌ {A = ℕ} 0 1 = cc in absurd (omega arith)
-both_absent (Some l) upper h = let z : ◌≡◌ {A = ℕ} 0 1 = cc in absurd (omega arith)
+both_absent None (Some u) h = cc
+both_absent (Some l) upper h = cc
 
 absent : (e : Ends) → unended e ≡ true → e ≡ no_ends
 absent e h = both_absent e.lower e.upper h
@@ -69,7 +69,7 @@ short_back (Some u) h = lt-ltb u 65535 (omega arith)
 
 -- the ends of a range that was read
 range_is : (l u : Option ℕ) (range : Range) → held l < 65536 → range_between l u ≡ Some range → (ends l u ≡ range_ends range) × Ended range
-range_is None u range small h = let z : ◌≡◌ {A = ℕ} 0 1 = cc in absurd (omega arith)
+range_is None u range small h = cc
 range_is (Some l) u range small h =
     let t = when_some (is_short u) (record { lower = l; upper = u }) range h in
     subst (λ r. (ends (Some l) u ≡ range_ends r) × Ended r) t.1 (refl, (omega arith, short_is u t.0))
@@ -163,7 +163,7 @@ count_good f op small y h =
 
 none_good : (k : ℕ) → Good k (λ f. None)
 unfolding Good
-none_good k f op small y h = let z : ◌≡◌ {A = ℕ} 0 1 = cc in absurd (omega arith)
+none_good k f op small y h = cc
 
 all_good : Each Good readers
 all_good = (
@@ -290,4 +290,4 @@ row_read bytes f (Some row) small e h =
     (e ∙ ap bytes_of from.is, from.ended, λ other ended is. let same : Some row ≡ Some other = h ∙ again bytes f other e ended is in cc)
 row_read bytes f None small e h = λ other ended is.
     let same : None ≡ Some other = h ∙ again bytes f other e ended is in
-    let z : ◌≡◌ {A = ℕ} 0 1 = cc in omega arith
+    cc
