@@ -52,6 +52,7 @@ fn decimals_keep_their_places(rt: HostRuntime) {
 
 #[test]
 fn decimals_compare_as_millionths(rt: HostRuntime) -> Result<(), Fail> {
+    // Not by `ok_or`, which would have to drop a `Fail` that isn't used, and a `Fail` can't be dropped.
     let Some(half) = Decimal::from_token(b"0.5") else {
         return Err(Fail::new("0.5 is a decimal"));
     };
