@@ -7,7 +7,8 @@ use Rattle.std.proofs.lemmas.Option.{none-some}
 use Rattle.std.proofs.lemmas.List.Quantifiers.{position-Some}
 use Rattle.std.proofs.lemmas.List.FromFn.{filter_of_map_range_with_len_more}
 use Rattle.std.proofs.lemmas.List.Sums.{fails_before_first}
-use Rattle.patterns.specs.Report.{passing, numbers_shown, line, lines, report, FirstLine}
+use Rattle.lines.specs.Lines.{lines}
+use Rattle.patterns.specs.Report.{passing, numbers_shown, line, report}
 
 -- the numbers that pass are those that a filter leaves
 pub filter_passing : (test : ℕ → Bool) (n : ℕ) → filter test (range_with_len 0 n) ≡ passing test n
@@ -15,53 +16,6 @@ filter_passing test zero = refl
 filter_passing test (suc n) =
     let more = simp map-id at (filter_of_map_range_with_len_more test (λ k. k) 0 n n (zero-add n)) in
     ap (λ k. filter test (range_with_len 0 k)) (sym (add-one n)) ∙ more ∙ ap (λ ks. ks ++ cond (test n) (n ∷ []) []) (filter_passing test n)
-
--- the line up to its end
-pub lines_cut : (bytes : List ℕ) (i : ℕ) → i < length bytes → ((k : ℕ) → k < i → get_or bytes k 0 ≡ 10 → ⊥) → get_or bytes i 0 ≡ 10 →
-    lines bytes ≡ take i bytes ∷ lines (drop (suc i) bytes)
-lines_cut [] i inside none here = absurd (omega arith)
-lines_cut (c ∷ s) zero inside none here = rw here
-lines_cut (c ∷ s) (suc i) inside none here =
-    let more = lines_cut s i (omega arith) (λ k below e. none (suc k) (omega arith) e) here in
-    rw (ne_eqb c 10 (none 0 (omega arith)), more)
-
--- the last line, without an end
-pub lines_last : (bytes : List ℕ) → 0 < length bytes → ((k : ℕ) → k < length bytes → get_or bytes k 0 ≡ 10 → ⊥) → lines bytes ≡ bytes ∷ []
-lines_last [] some none = absurd (omega arith)
-lines_last (c ∷ []) some none = rw (ne_eqb c 10 (none 0 (omega arith)))
-lines_last (c ∷ d ∷ s) some none =
-    let more = lines_last (d ∷ s) (omega arith) (λ k below e. none (suc k) (omega arith) e) in
-    rw (ne_eqb c 10 (none 0 (omega arith)), more)
-
--- what `split_line` answers, as slices are read
-pub first_line : (bytes : List ℕ) (i : ℕ) → i < length bytes → ((k : ℕ) → k < i → get_or bytes k 0 ≡ 10 → ⊥) → get_or bytes i 0 ≡ 10 →
-    FirstLine bytes (take i bytes) (take (length bytes - (i + 1)) (drop (i + 1) bytes))
-first_line bytes i inside none here =
-    let whole : take (length bytes - (i + 1)) (drop (i + 1) bytes) ≡ drop (suc i) bytes = take_rest bytes (i + 1) ∙ ap (λ k. drop k bytes) (add-one i) in
-    rw whole (lines_cut bytes i inside none here, simp length-drop (omega arith))
-
-pub last_line : (bytes : List ℕ) → 0 < length bytes → ((k : ℕ) → k < length bytes → get_or bytes k 0 ≡ 10 → ⊥) → FirstLine bytes bytes []
-last_line bytes some none = (lines_last bytes some none, some)
-
--- what `split_line` answers, by where the first line end is
-pub closed_line : (bytes : List ℕ) (end : ℕ) → Some end ≡ position (λ byte. eqb byte 10) bytes →
-    FirstLine bytes (take end bytes) (take (length bytes - (end + 1)) (drop (end + 1) bytes))
-closed_line bytes end is =
-    let first = position-Some (λ byte. eqb byte 10) bytes end 0 (sym is) in
-    first_line bytes end first.0 (λ k below. eqb-false (get_or bytes k 0) 10 (first.2 k below)) (eqb-true (get_or bytes end 0) 10 first.1)
-
-none_left : (bytes : List ℕ) (k : ℕ) → None ≡ position (λ byte. eqb byte 10) bytes → k < length bytes → get_or bytes k 0 ≡ 10 → ⊥
-none_left bytes k is below here =
-    ⊎_elim
-    (λ (some : position_or_len (λ byte. eqb byte 10) bytes < length bytes).
-    let found : position (λ byte. eqb byte 10) bytes ≡ Some (position_or_len (λ byte. eqb byte 10) bytes) = rw (lt-ltb (position_or_len (λ byte. eqb byte 10) bytes) (length bytes) some) refl in
-    none-some (position_or_len (λ byte. eqb byte 10) bytes) (is ∙ found))
-    (λ (past : length bytes ≤ position_or_len (λ byte. eqb byte 10) bytes).
-    eqb-false (get_or bytes k 0) 10 (fails_before_first (λ byte. eqb byte 10) bytes k 0 (omega arith)) here)
-    (cases_lt (position_or_len (λ byte. eqb byte 10) bytes) (length bytes))
-
-pub open_line : (bytes : List ℕ) → 0 < length bytes → None ≡ position (λ byte. eqb byte 10) bytes → FirstLine bytes bytes []
-open_line bytes some is = last_line bytes some (λ k below. none_left bytes k is below)
 
 -- a line put together from its parts
 pub line_parts : (out texted lined text shown numbers : List ℕ) → texted ≡ out ++ text → lined ≡ texted ++ shown → shown ≡ 58 ∷ (numbers_shown numbers ++ 10 ∷ []) →

@@ -11,7 +11,8 @@ use Rattle.std.specs.Str.{bytes_eq}
 use Rattle.std.proofs.lemmas.List.{length-map, get_or-map}
 use Rattle.std.proofs.lemmas.Bool.{cases_lt, lt-ltb, le-ltb}
 use Rattle.patterns.specs.Answers.{matches, side_by_side, Prints}
-use Rattle.patterns.specs.Report.{passing, line, lines, report}
+use Rattle.lines.specs.Lines.{lines}
+use Rattle.patterns.specs.Report.{passing, line, report}
 
 passing_same : (f g : ℕ → Bool) (n : ℕ) → ((k : ℕ) → k < n → f k ≡ g k) → passing f n ≡ passing g n
 passing_same f g zero same = refl

@@ -5,7 +5,6 @@ ghost use Rattle.std.specs.Prelude.{◌≡◌, IfOk};
 ghost use Rattle.dialects.specs.Files.{room};
 ghost use Rattle.patterns.specs.Answers.{Prints, Tells, side_by_side};
 
-mod lines;
 mod report;
 mod stop;
 

@@ -3,8 +3,8 @@ ghost use Rattle.std.specs.Prelude.{◌≡◌, IfOk, Some};
 ghost use Rattle.dialects.specs.Dialects.{answer};
 ghost use Rattle.patterns.specs.Report.{passing, numbers_shown, report as report_of};
 
-use crate::lines::Lines;
 use dialects::dialect::Dialect;
+use lines::Lines;
 use std::alloc::{AllocError, Global};
 use std::fmt;
 

@@ -2,7 +2,8 @@
 use Rattle.std.proofs.Common.{◌≡◌, [], ◌∷◌, ◌++◌, vec_items, rules}
 use Rattle.std.specs.String.{string_bytes}
 use Rattle.dialects.specs.Dialects.{answer}
-use Rattle.patterns.specs.Report.{lines, numbers_shown}
+use Rattle.lines.specs.Lines.{lines}
+use Rattle.patterns.specs.Report.{numbers_shown}
 use Rattle.patterns.proofs.Shown.{line_parts, report_more}
 use Rattle.patterns.proofs.report.report.Goals as goal
 

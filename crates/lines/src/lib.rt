@@ -1,12 +1,14 @@
-// The lines of an input.
+// The lines of an input, taken off one by one.
+#![tactic(auto)]
+
 ghost use Rattle.std.specs.Prelude.{◌≡◌, ◌<◌, length, ◌==◌};
 ghost use Rattle.std.specs.List.{position};
 ghost use Rattle.std.specs.Iterator.{YieldsFirstRef, item_count};
-ghost use Rattle.patterns.specs.Report.{FirstLine, lines as lines_of};
+ghost use Rattle.lines.specs.Lines.{FirstLine, lines as lines_of};
 
 // What is left of an input. A line feed closes a line, and the last may lack it.
-#[derive(Clone, Copy)]
-pub(crate) struct Lines<'a> {
+#[derive(Clone, Copy, Drop)]
+pub struct Lines<'a> {
     rest: &'a [u8],
 }
 
@@ -18,6 +20,7 @@ fn line_end(bytes: &[u8]) -> Option<usize>
 }
 
 // Takes the first line off, without the byte that closes it.
+// Not the library's `split_inclusive`: it leaves that byte on, and says of the pieces only one by one what they are.
 fn split_line(bytes: &[u8]) -> (&[u8], &[u8])
     ensures { 0 < length bytes.now → FirstLine bytes.now result.0.now result.1.now }
 {
@@ -28,7 +31,8 @@ fn split_line(bytes: &[u8]) -> (&[u8], &[u8])
 }
 
 impl<'a> Lines<'a> {
-    pub(crate) fn of(input: &'a [u8]) -> Lines<'a>
+    // All the lines of an input.
+    pub fn of(input: &'a [u8]) -> Lines<'a>
         ensures { result.rest.now ≡ input.now }
     {
         Lines { rest: input }

@@ -1,7 +1,6 @@
 -- The cut at the first line end, or none.
-
-use Rattle.patterns.proofs.Shown.{closed_line, open_line}
-use Rattle.patterns.proofs.lines.split_line.Goals as goal
+use Rattle.lines.proofs.Cuts.{closed_line, open_line}
+use Rattle.lines.proofs.split_line.Goals as goal
 
 pub returns-in-Some : goal.returns-in-Some
 returns-in-Some c some = closed_line c.args.bytes.now c.in-Some.end c.in-Some.ensures
