@@ -95,7 +95,8 @@ fn read_both(
     Ok((first, second))
 }
 
-// The answers of names before masks about a string, by their files and the parts that were read.
+// The answers of names before masks about a string, by their files and the parts that were read. A function of its own,
+// in which a file and its parts have one lifetime; a struct of both, lent again for each, had no proof.
 fn answers<'a>(
     heap: Global,
     names: &'a [u8],
