@@ -96,7 +96,7 @@ fn read_both(
 }
 
 // The answers of names before masks about a string, by their files and the parts that were read. A function of its own,
-// in which a file and its parts have one lifetime; a struct of both, lent again for each, had no proof.
+// since the check covers a list of patterns only where its file and its parts have one lifetime.
 fn answers<'a>(
     heap: Global,
     names: &'a [u8],
