@@ -14,7 +14,7 @@ use std::fmt::Write;
 // At most so many bytes come of one word, so that no count leads to an endless run.
 const LONGEST: usize = 1048576;
 
-// The value of a lower-case hexadecimal digit.
+// The value of a lower-case hexadecimal digit; `to_digit` takes upper case too.
 fn digit(code: u8) -> Option<u8>
     ensures { result ≡ hex_digit code }
 {

@@ -5,7 +5,7 @@ ghost use Rattle.cases.specs.Splits.{split, Parted, Cuts, parts_after};
 ghost use Rattle.cases.specs.Lefts.{parts_left};
 
 // Parts that are taken off one by one. Two marks in a row, a first or a last one have an empty part beside them,
-// and no bytes at all are one empty part.
+// and no bytes at all are one empty part. Not the library's `split`: its type holds a closure, which no signature can name.
 #[derive(Clone, Copy, Drop)]
 pub struct Parts<'a> {
     // none once the last part is taken

@@ -7,6 +7,7 @@ ghost use Rattle.cases_dialects.specs.Expected.{Expects, came_of, outcome_text, 
 use cases::outcome::{Refused, next_number, read_refusal};
 use cases::parts::Parts;
 use dialects::fault::PatternFault;
+use faults::Refusal;
 use std::alloc::{AllocError, Global};
 
 // The outcome that the words left state, all of them: `ok COUNT`, or a refusal.
@@ -29,7 +30,7 @@ pub(crate) fn expected(words: Parts<'_>) -> Option<Result<usize, Refused>>
 pub(crate) fn of_reading(reading: Result<usize, PatternFault>) -> Result<usize, Refused>
     ensures { result ≡ came_of reading }
 {
-    reading.map_err(|fault| Refused::from(fault.refusal()))
+    reading.map_err(|fault| Refused::from(Refusal::from(fault)))
 }
 
 // As a line writes it.

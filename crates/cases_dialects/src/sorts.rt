@@ -12,6 +12,7 @@ use cases::parts::Parts;
 use cases_runs::sort::{Case, Sort};
 use cases_runs::words::{take_bytes, take_number, take_word};
 use dialects::fault::PatternFault;
+use dialects::limits::MOST_FILE_PATTERNS;
 use dialects::masks::Masks;
 use dialects::names::Names;
 use dialects::pair::Pair;
@@ -19,9 +20,6 @@ use dialects::reading::{read_masks, read_names};
 use fields::part::Part;
 use std::alloc::{AllocError, Global};
 use std::str::from_utf8;
-
-// A file of at most 65,535 bytes has at most so many patterns, so more memory than for these is never used.
-const MOST_FILE_PATTERNS: usize = 21845;
 
 #[derive(Clone, Copy)]
 pub enum FileSort {
@@ -69,7 +67,7 @@ impl FileSort {
         }
     }
 
-    // Reads a file, by the words `MEMORY BYTES OUTCOME`.
+    // Reads a file, by the words `MEMORY BYTES OUTCOME`. More memory than any file fills is never used.
     fn run(self, heap: Global, words: Parts<'_>) -> Result<Case, LineFault>
         ensures { IfOk result (λ c. ReadsFile self (parts_left words.entry) (string_bytes c.expected) (string_bytes c.came)) }
     {
@@ -97,7 +95,8 @@ fn read_both(
     Ok((first, second))
 }
 
-// The answers of names before masks about a string, by their files and the parts that were read.
+// The answers of names before masks about a string, by their files and the parts that were read. A function of its own,
+// since the check covers a list of patterns only where its file and its parts have one lifetime.
 fn answers<'a>(
     heap: Global,
     names: &'a [u8],

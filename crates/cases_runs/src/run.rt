@@ -71,6 +71,7 @@ pub fn run<S: Sort>(heap: Global, input: &[u8]) -> Result<String, LineFault>
     ensures { IfOk result (λ s. Reports S.Sort.sorts S.Sort.word S.Sort.comes input.now (string_bytes s)) }
 {
     let mut report = Report::new::<S>(heap)?;
+    // Counted here: after `enumerate` the sum of 1 would want a bound on the lines, and nothing would be shorter.
     let mut number: usize = 1;
     for line in Lines::new(input) {
         take_line::<S>(heap, &mut report, number, line)?;
