@@ -11,10 +11,10 @@ use crate::memory::BookMemory;
 use books::draft::Draft;
 use books::fault::BookFault;
 use books::limits::Limits;
+use fields::field::LONGEST_FILE;
 use kinds::number::Number;
+use lists::filling::fill_with;
 use rules::row::Row;
-
-const LONGEST_FILE: usize = 65535;
 
 // How many numbers, rows and definitions a book has.
 #[derive(Clone, Copy, PartialEq, Eq, Debug)]
@@ -48,15 +48,6 @@ fn read_whole<K: Number>(
     };
     test_end(bytes.len(), draft, limits)?;
     Ok(counts)
-}
-
-// Puts one value into every slot.
-fn fill_with<T: Copy>(slots: &mut [T], value: T)
-    ensures { slots.new ≡ replicate (length slots.old) value }
-{
-    for i in 0..slots.len() {
-        slots[i] = value;
-    }
 }
 
 // Leaves nothing but zeros: a zero row is one that accepts nothing.

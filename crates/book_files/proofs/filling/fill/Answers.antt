@@ -31,7 +31,7 @@ returns-in_err-number_count-in-1 g c =
     rw (p.1, p.2)
     (number_refused kind patterns bytes before
     (memory c.loop-at.numbers c.loop-at.rows c.loop-at.definitions) c.loop-at.number_count c.loop-at.row_count c.loop-at.definition_count c.loop-at.last c.loop-at.at
-    c.in_err-number_count-in-1.field-0.0 c.loop-at.invariant.0 c.loop-at-test.true field.body.now field.rest.now (rw (← c.in-1.is) took) c.in_err-number_count-in-1.ensures.0)
+    c.in_err-number_count-in-1.field-0.0 c.loop-at.invariant.0 c.loop-at-test.true field.body.now field.rest.now (rw (← c.in-1.is) took) (rw c.number_of-number.ensures at c.in_err-number_count-in-1.ensures.0))
 
 pub slice_bounds-limits-end : goal.slice_bounds-limits-end
 slice_bounds-limits-end g c =
@@ -58,7 +58,7 @@ returns-in_err-row_count-in-2 g c =
     rw (p.1, p.2)
     (row_refused kind patterns bytes before
     (memory c.loop-at.numbers c.loop-at.rows c.loop-at.definitions) c.loop-at.number_count c.loop-at.row_count c.loop-at.definition_count c.loop-at.last c.loop-at.at
-    c.in_err-row_count-in-2.field-0.0 c.loop-at.invariant.0 c.loop-at-test.true field.body.now field.rest.now (rw (← c.in-2.is) took) c.in_err-row_count-in-2.ensures.0)
+    c.in_err-row_count-in-2.field-0.0 c.loop-at.invariant.0 c.loop-at-test.true field.body.now field.rest.now (rw (← c.in-2.is) took) (rw c.row_of-row.ensures at c.in_err-row_count-in-2.ensures.0))
 
 pub returns-in_err-definition_count-in_default : goal.returns-in_err-definition_count-in_default
 returns-in_err-definition_count-in_default g c =
@@ -73,7 +73,7 @@ returns-in_err-definition_count-in_default g c =
     rw (p.1, p.2)
     (definition_refused kind patterns bytes before
     (memory c.loop-at.numbers c.loop-at.rows c.loop-at.definitions) c.loop-at.number_count c.loop-at.row_count c.loop-at.definition_count c.loop-at.last c.loop-at.at
-    c.in_err-definition_count-in_default.field-0.0 c.loop-at.invariant.0 c.loop-at-test.true field.body.now field.rest.now (rw (← three) took) c.in_err-definition_count-in_default.ensures.0)
+    c.in_err-definition_count-in_default.field-0.0 c.loop-at.invariant.0 c.loop-at-test.true field.body.now field.rest.now (rw (← three) took) (rw c.definition_of-row.ensures at c.in_err-definition_count-in_default.ensures.0))
 
 pub loop-at-preserved : goal.loop-at-preserved
 loop-at-preserved g c =
@@ -87,15 +87,15 @@ loop-at-preserved g c =
       elim c.match-field.branch [
         | in-1+in_ok-number_count-in-1 w ↦ took_number kind patterns bytes before held c.loop-at.number_count c.loop-at.row_count c.loop-at.definition_count c.loop-at.last c.loop-at.at
             c.match-field.numbers c.match-field.rows c.match-field.definitions c.match-field.number_count c.match-field.row_count c.match-field.definition_count field.tag field.body.now field.rest.now
-            c.loop-at.invariant.0 took w.in-1.is _ _ w.in_ok-number_count-in-1.ensures w.numbers-is w.rows-is w.definitions-is w.number_count-is w.row_count-is w.definition_count-is
+            c.loop-at.invariant.0 took w.in-1.is _ _ (rw w.number_of-number.ensures at w.in_ok-number_count-in-1.ensures) w.numbers-is w.rows-is w.definitions-is w.number_count-is w.row_count-is w.definition_count-is
         | in-2+in_ok-row_count-in-2 w ↦ took_row kind patterns bytes before held c.loop-at.number_count c.loop-at.row_count c.loop-at.definition_count c.loop-at.last c.loop-at.at
             c.match-field.numbers c.match-field.rows c.match-field.definitions c.match-field.number_count c.match-field.row_count c.match-field.definition_count field.tag field.body.now field.rest.now
-            (λ i. omega (arith, c.type_inv.bytes i)) c.loop-at.invariant.0 took w.in-2.is _ _ w.in_ok-row_count-in-2.ensures w.numbers-is w.rows-is w.definitions-is w.number_count-is w.row_count-is w.definition_count-is
+            (λ i. omega (arith, c.type_inv.bytes i)) c.loop-at.invariant.0 took w.in-2.is _ _ (rw w.row_of-row.ensures at w.in_ok-row_count-in-2.ensures) w.numbers-is w.rows-is w.definitions-is w.number_count-is w.row_count-is w.definition_count-is
         | in_default+in_ok-definition_count-in_default w ↦ took_definition kind patterns bytes before held c.loop-at.number_count c.loop-at.row_count c.loop-at.definition_count c.loop-at.last c.loop-at.at
             c.match-field.numbers c.match-field.rows c.match-field.definitions c.match-field.number_count c.match-field.row_count c.match-field.definition_count field.tag field.body.now field.rest.now
             (λ i. omega (arith, c.type_inv.bytes i)) c.loop-at.invariant.0 took
             (third kind patterns bytes before c.loop-at.last c.loop-at.at field.tag field.body.now field.rest.now took (search rules) (search rules))
-            _ _ w.in_ok-definition_count-in_default.ensures w.numbers-is w.rows-is w.definitions-is w.number_count-is w.row_count-is w.definition_count-is
+            _ _ (rw w.definition_of-row.ensures at w.in_ok-definition_count-in_default.ensures) w.numbers-is w.rows-is w.definitions-is w.number_count-is w.row_count-is w.definition_count-is
       ],
       still_within kind patterns bytes before c.loop-at.last c.loop-at.at field.tag field.body.now field.rest.now took c.loop-at.invariant.1,
     )
