@@ -2,7 +2,6 @@
 #![tactic(auto)]
 
 pub mod kind;
-mod lines;
 pub mod program;
 mod report;
 pub mod run;

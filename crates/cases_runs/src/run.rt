@@ -3,12 +3,12 @@ ghost use Rattle.std.specs.Prelude.{◌≡◌, IfSome, IfOk, vec_items, string_b
 ghost use Rattle.cases_runs.specs.Runs.{Remark, Steps, Reports};
 ghost use Rattle.cases_runs.specs.Places.{Names, RanOf};
 
-use crate::lines::Lines;
 use crate::report::{Ran, Report};
 use crate::sort::Sort;
 use crate::words::{take_number, take_word};
 use cases::fault::LineFault;
 use cases::parts::Parts;
+use lines::Lines;
 use std::alloc::Global;
 
 // The sort whose lines begin with this word, after its place.
@@ -73,7 +73,7 @@ pub fn run<S: Sort>(heap: Global, input: &[u8]) -> Result<String, LineFault>
     let mut report = Report::new::<S>(heap)?;
     // Counted here: after `enumerate` the sum of 1 would want a bound on the lines, and nothing would be shorter.
     let mut number: usize = 1;
-    for line in Lines::new(input) {
+    for line in Lines::of(input) {
         take_line::<S>(heap, &mut report, number, line)?;
         number = number.saturating_add(1);
     }

@@ -8,7 +8,7 @@ loop-line-init g c = record {
   is_finite = tt;
   onward = begun g.S.Sort.sorts g.S.Sort.word g.S.Sort.comes c.into_iter-line-iterator.result.rest.now c.args.input.now
       (vec_items c.in_ok-report.report.tallies) (string_bytes c.in_ok-report.report.text)
-      (ap (λ s. s.rest.now) c.into_iter-line-iterator.ensures.into_iter_gives ∙ c.new-line-items.ensures);
+      (ap (λ s. s.rest.now) c.into_iter-line-iterator.ensures.into_iter_gives ∙ c.of-line-items.ensures);
 }
 
 pub loop-line-preserved : goal.loop-line-preserved
