@@ -5,7 +5,7 @@ ghost use Rattle.book_files.specs.Drafts.{memory};
 ghost use Rattle.book_files.specs.Filling.{Adds, Fills};
 
 use crate::reading::BookCounts;
-use book_fields::field::{NUMBER_TAG, ROW_TAG, next_field};
+use book_fields::field::{Tag, next_field};
 use book_fields::items::{definition_of, number_of, row_of};
 use books::fault::BookFault;
 use books::limits::{Limits, MOST_DEFINITIONS, MOST_NUMBERS, MOST_ROWS};
@@ -13,6 +13,7 @@ use kinds::number::Number;
 use rules::row::Row;
 
 // Puts an item behind so many others, unless the memory or the maximum is full, and answers how many there are then.
+// Not by a `LentList`: making one doesn't tell that it holds the caller's memory, of which reading a book promises all.
 fn add<T: Copy>(
     slots: &mut [T],
     count: usize,
@@ -40,17 +41,18 @@ pub(crate) fn fill<K: Number>(
     ensures { Fills K.Number.kind patterns bytes.now (memory numbers.old rows.old definitions.old) (memory numbers.new rows.new definitions.new) result }
 {
     let (mut number_count, mut row_count, mut definition_count) = (0, 0, 0);
-    let mut last = NUMBER_TAG;
+    let mut last = Tag::Number;
     let mut at = 0;
+    // By offsets, and not by what is left: each fault tells one.
     while at < bytes.len() {
-        let field = next_field(&bytes[at..], last, at)?;
+        let field = next_field(&bytes[at..], u8::from(last), at)?;
         let body = field.body;
         match field.tag {
-            NUMBER_TAG => {
+            Tag::Number => {
                 let number = number_of(body, at);
                 number_count = add(numbers, number_count, MOST_NUMBERS, at, number)?;
             }
-            ROW_TAG => {
+            Tag::Row => {
                 let limits = Limits {
                     numbers: &numbers[..number_count],
                     patterns,
@@ -58,7 +60,7 @@ pub(crate) fn fill<K: Number>(
                 let row = row_of(body, at, row_count, limits);
                 row_count = add(rows, row_count, MOST_ROWS, at, row)?;
             }
-            _ => {
+            Tag::Definition => {
                 let row = definition_of(body, at, row_count);
                 definition_count = add(definitions, definition_count, MOST_DEFINITIONS, at, row)?;
             }

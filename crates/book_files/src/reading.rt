@@ -69,6 +69,7 @@ pub fn read_book<K: Number>(
     ensures granted { Granted K.Number.kind patterns (room_of (held memory.old)) bytes.now result }
     ensures lent { SameLent memory.old memory.new }
 {
+    // Three slices from here on: the borrow checker doesn't cover two fields of the memory lent in one call.
     let numbers = &mut *memory.numbers;
     let rows = &mut *memory.rows;
     let definitions = &mut *memory.definitions;

@@ -49,13 +49,10 @@ pub fn number_at<K: Number>(numbers: &[K], i: usize) -> K
 fn is_above_zero<K: Number>(row: Row, limits: Limits<'_, K>) -> bool
     ensures { result ≡ row_above (limits_in K.Number.kind limits.entry) row }
 {
-    match row {
-        Row::Multiple(q) | Row::NotMultiple(q) => number_at(
-            limits.numbers,
-            usize::from(q),
-        ).is_positive(),
-        _ => true,
-    }
+    let (Row::Multiple(q) | Row::NotMultiple(q)) = row else {
+        return true;
+    };
+    number_at(limits.numbers, usize::from(q)).is_positive()
 }
 
 // Passes where this holds, and gives the fault where it doesn't.
