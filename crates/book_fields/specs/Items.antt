@@ -35,7 +35,8 @@ row_from limits full at place bytes = if_room full place (tested limits at place
 abbrev pub named : List ℕ → ℕ
 named bytes = slice_index bytes 0 * 256 + slice_index bytes 1
 
+abbrev pub body_row : (place rows : ℕ) → List ℕ → Result ℕ BookFault
+body_row place rows bytes = cond (length bytes == 2) (cond (nat_lt (named bytes) rows) (Ok (named bytes)) (Err (Missing place))) (Err (WrongLength place))
+
 abbrev pub definition_from : Bool → (place rows : ℕ) → List ℕ → Result ℕ BookFault
-definition_from full place rows bytes =
-    if_room full place
-    (cond (length bytes == 2) (cond (nat_lt (named bytes) rows) (Ok (named bytes)) (Err (Missing place))) (Err (WrongLength place)))
+definition_from full place rows bytes = if_room full place (body_row place rows bytes)

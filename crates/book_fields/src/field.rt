@@ -1,51 +1,100 @@
 // Takes the next field off a book's file.
 ghost use Rattle.std.specs.Prelude.{◌≡◌};
-ghost use Rattle.book_fields.specs.Fields.{is_misplaced, is_wrong, TakesField, Cuts};
+ghost use Rattle.book_fields.specs.Fields.{is_wrong, tag_number, NamesTag, PlacesTag, TakesField, Cuts};
 
 use books::fault::BookFault;
-use fields::field::{CutShort, Field, split_field};
+use fields::field::{CutShort, split_field};
 
-pub const NUMBER_TAG: u8 = 1;
-
-pub const ROW_TAG: u8 = 2;
-
-pub const DEFINITION_TAG: u8 = 3;
-
-// Whether a tag is none of a book's, or comes after a higher one.
-fn is_misplaced(tag: u8, last: u8) -> bool
-    ensures { result ≡ is_misplaced last tag }
-{
-    tag < NUMBER_TAG || tag > DEFINITION_TAG || tag < last
+// What a field holds. No field of a file comes after one with a higher tag.
+#[derive(Clone, Copy, PartialEq, Eq, Debug)]
+pub enum Tag {
+    Number,
+    Row,
+    Definition,
 }
 
-// Whether a body has another length than its tag asks for. A number may have any.
-fn is_wrong(tag: u8, length: usize) -> bool
-    ensures { result ≡ is_wrong tag length }
-{
-    match tag {
-        ROW_TAG => length != 10,
-        DEFINITION_TAG => length != 2,
-        _ => false,
+// The number by which a file has a tag.
+impl From<Tag> for u8 {
+    ghost from_gives = { λ t n. n ≡ tag_number t };
+
+    fn from(tag: Tag) -> u8 {
+        match tag {
+            Tag::Number => 1,
+            Tag::Row => 2,
+            Tag::Definition => 3,
+        }
     }
 }
 
-// The field that bytes begin with, which stands at this place, after a field of the tag `last`.
-pub fn next_field(bytes: &[u8], last: u8, place: usize) -> Result<Field<'_>, BookFault>
+// A number that no tag of a book has.
+#[derive(Clone, Copy, PartialEq, Eq, Debug)]
+pub struct UnknownTag(pub u8);
+
+// The tag of a number.
+impl TryFrom<u8> for Tag {
+    type Error = UnknownTag;
+
+    ghost try_from_gives = { NamesTag };
+
+    fn try_from(number: u8) -> Result<Tag, UnknownTag> {
+        match number {
+            1 => Ok(Tag::Number),
+            2 => Ok(Tag::Row),
+            3 => Ok(Tag::Definition),
+            _ => Err(UnknownTag(number)),
+        }
+    }
+}
+
+// A field of a book's file, and what comes after it.
+#[derive(Clone, Copy)]
+pub struct BookField<'a> {
+    pub tag: Tag,
+    pub body: &'a [u8],
+    pub rest: &'a [u8],
+}
+
+// The tag of a number, unless it is none of a book's or lower than the last one.
+fn placed_tag(number: u8, last: u8, place: usize) -> Result<Tag, BookFault>
+    ensures { PlacesTag last number place result }
+{
+    match Tag::try_from(number) {
+        Ok(tag) if number >= last => Ok(tag),
+        _ => Err(BookFault::UnknownTag(place)),
+    }
+}
+
+// Whether a body has another length than its tag asks for. A number may have any.
+fn is_wrong(tag: Tag, length: usize) -> bool
+    ensures { result ≡ is_wrong (tag_number tag) length }
+{
+    match tag {
+        Tag::Number => false,
+        Tag::Row => length != 10,
+        Tag::Definition => length != 2,
+    }
+}
+
+// The field that bytes begin with, which stands at this place, after a field whose tag has the number `last`.
+pub fn next_field(bytes: &[u8], last: u8, place: usize) -> Result<BookField<'_>, BookFault>
     ensures takes { TakesField last place bytes.now result }
     ensures cuts { Cuts bytes.now result }
 {
     let field = match split_field(bytes) {
         Ok(field) => field,
-        Err(CutShort::Body(tag)) if is_misplaced(tag, last) => {
-            return Err(BookFault::UnknownTag(place));
+        Err(CutShort::Head) => return Err(BookFault::WrongLength(place)),
+        Err(CutShort::Body(tag)) => {
+            placed_tag(tag, last, place)?;
+            return Err(BookFault::WrongLength(place));
         }
-        Err(_) => return Err(BookFault::WrongLength(place)),
     };
-    if is_misplaced(field.tag, last) {
-        return Err(BookFault::UnknownTag(place));
-    }
-    if is_wrong(field.tag, field.body.len()) {
+    let tag = placed_tag(field.tag, last, place)?;
+    if is_wrong(tag, field.body.len()) {
         return Err(BookFault::WrongLength(place));
     }
-    Ok(field)
+    Ok(BookField {
+        tag,
+        body: field.body,
+        rest: field.rest,
+    })
 }

@@ -1,59 +1,46 @@
 // Reads what stands in a field: a number, a row or a definition.
 ghost use Rattle.std.specs.Prelude.{◌≡◌};
+ghost use Rattle.kinds.specs.Causes.{outcome};
+ghost use Rattle.rows.specs.Rows.{row_of as row_from_bytes};
 ghost use Rattle.books.specs.Drafts.{limits_in};
-ghost use Rattle.book_fields.specs.Items.{number_from, row_from, definition_from};
+ghost use Rattle.book_fields.specs.Items.{with_cause, tested, body_row};
 
 use books::fault::BookFault;
 use books::limits::Limits;
 use books::parts::test_row;
-use kinds::number::{Number, read_number};
+use kinds::number::{Number, read_number_at};
 use rows::reading::read_row;
 use rules::row::Row;
 
-// The number of a token, unless the memory or the maximum is full.
-pub fn number_of<K: Number>(body: &[u8], place: usize, full: bool) -> Result<K, BookFault>
-    ensures { result ≡ number_from K.Number.kind full place body.now }
+// The number of the token at this place.
+pub fn number_of<K: Number>(body: &[u8], place: usize) -> Result<K, BookFault>
+    ensures { result ≡ with_cause place (outcome K.Number.kind body.now) }
 {
-    if full {
-        return Err(BookFault::TooMany(place));
-    }
-    match read_number(body) {
-        Ok(number) => Ok(number),
-        Err(cause) => Err(BookFault::BadNumber(place, cause)),
-    }
+    Ok(read_number_at(body, place)?)
 }
 
-// The row of ten bytes, as row number `at` of a book within these limits, unless the memory or the maximum is full.
+// The row of ten bytes at this place, as row number `at` of a book within these limits.
 pub fn row_of<K: Number>(
     body: &[u8],
     place: usize,
-    full: bool,
     at: usize,
     limits: Limits<'_, K>,
 ) -> Result<Row, BookFault>
-    ensures { result ≡ row_from (limits_in K.Number.kind limits.entry) full at place body.now }
+    ensures { result ≡ tested (limits_in K.Number.kind limits.entry) at place (row_from_bytes body.now) }
 {
-    if full {
-        return Err(BookFault::TooMany(place));
-    }
-    let Some(row) = read_row(body) else {
-        return Err(BookFault::NotAllowed(place));
-    };
+    let row = read_row(body).ok_or(BookFault::NotAllowed(place))?;
     test_row(row, at, place, limits)?;
     Ok(row)
 }
 
-// The body row of a definition, which is one of so many rows, unless the memory or the maximum is full.
-pub fn definition_of(body: &[u8], place: usize, full: bool, rows: usize) -> Result<u16, BookFault>
-    ensures { result ≡ definition_from full place rows body.now }
+// The body row of the definition at this place, which is one of so many rows.
+pub fn definition_of(body: &[u8], place: usize, rows: usize) -> Result<u16, BookFault>
+    ensures { result ≡ body_row place rows body.now }
 {
-    if full {
-        return Err(BookFault::TooMany(place));
-    }
     let [high, low] = body else {
         return Err(BookFault::WrongLength(place));
     };
-    let row = u16::from(*high) * 256 + u16::from(*low);
+    let row = u16::from_be_bytes([*high, *low]);
     if usize::from(row) >= rows {
         return Err(BookFault::Missing(place));
     }

@@ -1,10 +1,9 @@
 -- What has been read when some fields of a file are filled in, and how one more field adds to it.
-use Rattle.std.proofs.Common.{◌≡◌, ℕ, ◌+◌, ◌<◌, ◌≤◌, min, Bool, true, false, not, ◌||◌, ltb, leb, List, [], ◌∷◌, ◌++◌, map, length, get_or, take, drop, set, Ok, Err, sym, refl, ap, ◌∙◌, subst, inr, append_assoc, arith, length-append, length-drop}
+use Rattle.std.proofs.Common.{◌≡◌, ℕ, ◌+◌, ◌<◌, ◌≤◌, min, Bool, true, false, not, leb, List, [], ◌∷◌, ◌++◌, map, length, get_or, take, drop, set, Ok, Err, sym, refl, ap, ◌∙◌, subst, inr, append_assoc, arith, length-append, length-drop}
 use Rattle.std.proofs.lemmas.List.{append-nil, take_at, drop_at, drop-drop, drop_all, length_push, length-map, map_push, get_or-drop}
-use Rattle.std.proofs.lemmas.Bool.{leb-false, ltb-false, not-true, or_parts}
+use Rattle.std.proofs.lemmas.Bool.{leb-false, not-true}
 use Rattle.std.specs.Result.{result_and}
 use Rattle.fields.specs.Fields.{field_bytes, tag_of, stated_length}
-use Rattle.fields.specs.declared.field.Field.{Field}
 use Rattle.numbers.specs.Kinds.{Kind}
 use Rattle.rules.specs.Book.{limits_of}
 use Rattle.rules.specs.declared.row.Row.{Row}
@@ -13,7 +12,8 @@ use Rattle.rows.proofs.Back.{bytes_are}
 use Rattle.books.specs.Tests.{passes, ask}
 use Rattle.books.specs.declared.fault.BookFault.{BookFault}
 use Rattle.books.proofs.Keeping.{both_pass, asked, row_passes}
-use Rattle.book_fields.specs.Fields.{field_test, is_misplaced, TakesField, Cuts}
+use Rattle.book_fields.specs.declared.field.BookField.{BookField}
+use Rattle.book_fields.specs.Fields.{field_test, is_misplaced, tag_number, TakesField, Cuts}
 use Rattle.book_fields.specs.Items.{number_from, row_from, definition_from}
 use Rattle.book_files.specs.Drafts.{Numeral, Draft, drafted, Memory, memory, room_of, number_fields, row_fields, definition_fields, file, numbers, body_bytes}
 use Rattle.book_files.specs.Files.{last_tag, limits, NumberFits, RowFits, BodyFits, Fits, next_test, body_test, ReadsTo, Filled}
@@ -215,8 +215,8 @@ module _ {K : Type 0} (kind : Kind K) (patterns : ℕ) (bytes : List ℕ) (befor
     pub tag_is : tag ≡ tag_of (drop at bytes)
     pub body_is : body ≡ take (stated_length (drop at bytes)) (drop 3 (drop at bytes))
 
-  pub taken_from : (last at : ℕ) (front : List ℕ) (f : Field) → front ≡ drop at bytes → TakesField last at front (Ok f) → Cuts front (Ok f) →
-      Taken last at f.tag f.body.now f.rest.now
+  pub taken_from : (last at : ℕ) (front : List ℕ) (f : BookField) → front ≡ drop at bytes → TakesField last at front (Ok f) → Cuts front (Ok f) →
+      Taken last at (tag_number f.tag) f.body.now f.rest.now
   taken_from last at front f is takes cuts = record {
     here = sym is ∙ cuts;
     passed = subst (λ bs. field_test last at bs ≡ passes) is takes.0;
@@ -230,15 +230,6 @@ module _ {K : Type 0} (kind : Kind K) (patterns : ℕ) (bytes : List ℕ) (befor
       let a = both_pass (ask (leb 3 (length bs)) _) _ taken.passed in
       let b = both_pass (ask (not (is_misplaced last (tag_of bs))) _) _ a.1 in
       subst (λ t. is_misplaced last t ≡ false) (sym taken.tag_is) (not-true (is_misplaced last (tag_of bs)) (asked (not (is_misplaced last (tag_of bs))) _ b.0))
-
-  -- the tag of a definition is the only other one
-  pub third : (last at tag : ℕ) (body rest : List ℕ) → Taken last at tag body rest → (tag ≡ 1 → ⊥) → (tag ≡ 2 → ⊥) → tag ≡ 3
-  third last at tag body rest taken one two =
-      let p = or_parts (ltb tag 1) (ltb 3 tag || ltb tag last) (placed last at tag body rest taken) in
-      let q = or_parts (ltb 3 tag) (ltb tag last) p.1 in
-      let low = ltb-false tag 1 p.0 in
-      let high = ltb-false 3 tag q.0 in
-      omega (arith, one, two)
 
   -- a field that was taken lies within the file
   pub still_within : (last at tag : ℕ) (body rest : List ℕ) → Taken last at tag body rest → at ≤ length bytes → at + (3 + length body) ≤ length bytes

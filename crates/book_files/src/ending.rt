@@ -18,6 +18,7 @@ const ROW_FIELD: usize = 13;
 const DEFINITION_FIELD: usize = 5;
 
 // Tests the variables among rows whose fields begin at this place.
+// Not by a public form of `test_each` of books: that one asks that the test may be called, and no public call asks anything.
 fn test_variables_from(rows: &[Row], definitions: usize, place: usize) -> Result<(), BookFault>
     requires { place + 13 * length rows.now ≤ 65535 }
     ensures { result ≡ first_refused (λ i row. variable_test definitions (place + 13 * i) row) 0 rows.now }

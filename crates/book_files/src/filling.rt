@@ -1,62 +1,32 @@
 // Fills in the numbers, rows and definitions of a book's file, field by field.
 ghost use Rattle.std.specs.Prelude.{◌≡◌, ◌≤◌, min, length, nat_le};
-ghost use Rattle.books.specs.Drafts.{limits_in};
-ghost use Rattle.book_fields.specs.Items.{number_from, row_from, definition_from};
+ghost use Rattle.book_fields.specs.Items.{if_room};
 ghost use Rattle.book_files.specs.Drafts.{memory};
 ghost use Rattle.book_files.specs.Filling.{Adds, Fills};
 
 use crate::reading::BookCounts;
-use book_fields::field::{NUMBER_TAG, ROW_TAG, next_field};
+use book_fields::field::{Tag, next_field};
 use book_fields::items::{definition_of, number_of, row_of};
 use books::fault::BookFault;
 use books::limits::{Limits, MOST_DEFINITIONS, MOST_NUMBERS, MOST_ROWS};
 use kinds::number::Number;
 use rules::row::Row;
 
-// Adds the number of a token behind so many others, and answers how many there are then.
-fn add_number<K: Number>(
-    body: &[u8],
-    place: usize,
-    numbers: &mut [K],
+// Puts an item behind so many others, unless the memory or the maximum is full, and answers how many there are then.
+// Not by a `LentList`: making one doesn't tell that it holds the caller's memory, of which reading a book promises all.
+fn add<T: Copy>(
+    slots: &mut [T],
     count: usize,
-) -> Result<usize, BookFault>
-    ensures { Adds (number_from K.Number.kind (nat_le (min (length numbers.old) 1024) count) place body.now) count numbers.old numbers.new result }
-{
-    let full = count >= numbers.len().min(MOST_NUMBERS);
-    let number = number_of(body, place, full)?;
-    numbers[count] = number;
-    Ok(count + 1)
-}
-
-// Adds the row of ten bytes behind so many others, in a book of these numbers.
-fn add_row<K: Number>(
-    body: &[u8],
+    most: usize,
     place: usize,
-    limits: Limits<'_, K>,
-    rows: &mut [Row],
-    count: usize,
+    item: Result<T, BookFault>,
 ) -> Result<usize, BookFault>
-    ensures { Adds (row_from (limits_in K.Number.kind limits.entry) (nat_le (min (length rows.old) 2048) count) count place body.now) count rows.old rows.new result }
+    ensures { Adds (if_room (nat_le (min (length slots.old) most) count) place item) count slots.old slots.new result }
 {
-    let full = count >= rows.len().min(MOST_ROWS);
-    let row = row_of(body, place, full, count, limits)?;
-    rows[count] = row;
-    Ok(count + 1)
-}
-
-// Adds a definition behind so many others, in a book of so many rows.
-fn add_definition(
-    body: &[u8],
-    place: usize,
-    rows: usize,
-    definitions: &mut [u16],
-    count: usize,
-) -> Result<usize, BookFault>
-    ensures { Adds (definition_from (nat_le (min (length definitions.old) 128) count) place rows body.now) count definitions.old definitions.new result }
-{
-    let full = count >= definitions.len().min(MOST_DEFINITIONS);
-    let row = definition_of(body, place, full, rows)?;
-    definitions[count] = row;
+    if count >= slots.len().min(most) {
+        return Err(BookFault::TooMany(place));
+    }
+    slots[count] = item?;
     Ok(count + 1)
 }
 
@@ -71,28 +41,28 @@ pub(crate) fn fill<K: Number>(
     ensures { Fills K.Number.kind patterns bytes.now (memory numbers.old rows.old definitions.old) (memory numbers.new rows.new definitions.new) result }
 {
     let (mut number_count, mut row_count, mut definition_count) = (0, 0, 0);
-    let mut last = NUMBER_TAG;
+    let mut last = Tag::Number;
     let mut at = 0;
+    // By offsets, and not by what is left: each fault tells one.
     while at < bytes.len() {
-        let field = next_field(&bytes[at..], last, at)?;
+        let field = next_field(&bytes[at..], u8::from(last), at)?;
         let body = field.body;
         match field.tag {
-            NUMBER_TAG => number_count = add_number(body, at, numbers, number_count)?,
-            ROW_TAG => {
+            Tag::Number => {
+                let number = number_of(body, at);
+                number_count = add(numbers, number_count, MOST_NUMBERS, at, number)?;
+            }
+            Tag::Row => {
                 let limits = Limits {
                     numbers: &numbers[..number_count],
                     patterns,
                 };
-                row_count = add_row(body, at, limits, rows, row_count)?;
+                let row = row_of(body, at, row_count, limits);
+                row_count = add(rows, row_count, MOST_ROWS, at, row)?;
             }
-            _ => {
-                definition_count = add_definition(
-                    body,
-                    at,
-                    row_count,
-                    definitions,
-                    definition_count,
-                )?;
+            Tag::Definition => {
+                let row = definition_of(body, at, row_count);
+                definition_count = add(definitions, definition_count, MOST_DEFINITIONS, at, row)?;
             }
         }
         last = field.tag;

@@ -11,10 +11,10 @@ use crate::memory::BookMemory;
 use books::draft::Draft;
 use books::fault::BookFault;
 use books::limits::Limits;
+use fields::field::LONGEST_FILE;
 use kinds::number::Number;
+use lists::filling::fill_with;
 use rules::row::Row;
-
-const LONGEST_FILE: usize = 65535;
 
 // How many numbers, rows and definitions a book has.
 #[derive(Clone, Copy, PartialEq, Eq, Debug)]
@@ -50,15 +50,6 @@ fn read_whole<K: Number>(
     Ok(counts)
 }
 
-// Puts one value into every slot.
-fn fill_with<T: Copy>(slots: &mut [T], value: T)
-    ensures { slots.new ≡ replicate (length slots.old) value }
-{
-    for i in 0..slots.len() {
-        slots[i] = value;
-    }
-}
-
 // Leaves nothing but zeros: a zero row is one that accepts nothing.
 fn erase<K: Number>(numbers: &mut [K], rows: &mut [Row], definitions: &mut [u16])
     ensures { Erased K.Number.kind (memory numbers.old rows.old definitions.old) (memory numbers.new rows.new definitions.new) }
@@ -78,6 +69,7 @@ pub fn read_book<K: Number>(
     ensures granted { Granted K.Number.kind patterns (room_of (held memory.old)) bytes.now result }
     ensures lent { SameLent memory.old memory.new }
 {
+    // Three slices from here on: the borrow checker doesn't cover two fields of the memory lent in one call.
     let numbers = &mut *memory.numbers;
     let rows = &mut *memory.rows;
     let definitions = &mut *memory.definitions;
