@@ -26,6 +26,7 @@ pub(crate) fn write_rows(rows: &[Row], d: u16, out: &mut [Row], places: &mut [Pl
 {
     put(out, 0, &FIXED);
     let mut count = FIXED.len();
+    // by index, as each row looks up the places before it
     for (r, row) in rows.iter().enumerate() {
         let free = FreeRow {
             number: count as u16,
@@ -44,6 +45,7 @@ pub(crate) fn write_bodies(definitions: &[u16], places: &[Place], out: &mut [u16
     ensures { out.new ≡ written_over (bodies places.now definitions.now) out.old }
 {
     let (bodies, complements) = out.split_at_mut(definitions.len());
+    // by index, as a proof knows nothing of what is written through a `zip` of `iter_mut`
     for (k, body) in definitions.iter().enumerate() {
         let place = place_of(places, *body);
         bodies[k] = place.positive;
