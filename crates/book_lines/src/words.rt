@@ -5,7 +5,7 @@ ghost use Rattle.book_lines.specs.Lines.{type_word, operator_word, range_text};
 use rules::row::{Range, Row, ValueType};
 use std::fmt;
 
-// The name of a type.
+// The name of a type. A function, and no `Display`, here and below: the types are of another crate.
 pub(crate) fn type_word(of: ValueType) -> &'static str
     ensures { result.now ≡ type_word of }
 {
