@@ -1,6 +1,4 @@
 mod Decimals
+mod Folding
 mod Integers
-mod Puts
-mod Reading
-mod Taking
 mod Wholes

@@ -1,7 +1,7 @@
 -- What is read of a token that was taken apart.
 use Rattle.std.proofs.Common.{◌≡◌, ℕ, ◌<◌, Bool, List, length, Some, None, sym, ap, ◌∙◌}
 use Rattle.numbers.specs.Grammar.{Digits}
-use Rattle.numbers.specs.Kinds.{mapped}
+use Rattle.std.specs.Option.{option_map}
 use Rattle.numbers.specs.Reading.{plain, whole_of, taken_apart}
 use Rattle.numbers.proofs.Tokens.{int_digits, plain_int}
 use Rattle.numbers.proofs.Wholes.{unsuited_places, unsuited_long}
@@ -9,7 +9,7 @@ use Rattle.kinds.specs.Wholes.{a_whole, whole_kind}
 
 module _ (token : List ℕ) (minus : Bool) (int ds : List ℕ) (taken : Some (plain minus int ds) ≡ taken_apart token) where
   read_is : whole_of (Some (plain minus int ds)) ≡ None → None ≡ whole_kind.read token
-  read_is e = ap (mapped a_whole) (sym e) ∙ ap (λ p. mapped a_whole (whole_of p)) taken
+  read_is e = ap (option_map a_whole) (sym e) ∙ ap (λ p. option_map a_whole (whole_of p)) taken
 
   pub digits_taken : Digits int
   digits_taken = int_digits int (plain_int token (plain minus int ds) (sym taken))

@@ -1,21 +1,20 @@
 // Decimals: no exponent, at most 12 digits in all, and at most 6 of them after the point.
 ghost use Rattle.std.specs.Prelude.{◌≡◌, ◌^◌, ◌<◌, ◌≤◌, length, Decides, refl};
-ghost use Rattle.kinds.specs.Decimals.{decimal_kind, as_fixed, a_decimal};
+ghost use Rattle.kinds.specs.Decimals.{decimal_kind, as_fixed};
 ghost use Rattle.numbers.specs.Grammar.{Digits};
 ghost use Rattle.numbers.specs.Kinds.{Kept, ReadsValue};
 ghost use Rattle.numbers.specs.Laws.{Multiple};
 ghost use Rattle.numbers.specs.Values.{MeansDecimal, in_millionths};
-ghost use Rattle.numbers.specs.Reading.{fixed};
-ghost use Rattle.numbers.proofs.Held.{held_lawful};
-ghost use Rattle.numbers.proofs.Decimals.{decimal_lawful};
+ghost use Rattle.kinds.specs.Laws.{decimal_laws};
 
 use crate::integer::{is_multiple, signed};
 use crate::number::Number;
 use crate::token::{number_of, take_apart};
-use crate::writing::{
-    decimal_length, fraction_length, minus_length, put_decimal, put_fraction, put_minus,
-};
+use crate::writing::{fraction_length, minus, pointed, write_parts};
+use itoa::Buffer;
 use std::cmp::Ordering;
+
+const MILLION: u64 = 1_000_000;
 
 // A decimal, counted in millionths; it is written with as many places as it was read with.
 #[derive(Clone, Copy)]
@@ -29,19 +28,19 @@ impl Number for Decimal {
 
     const LONGEST: usize = 14;
 
-    ghost turns = { (held_lawful fixed a_decimal as_fixed (λ x. refl) decimal_lawful).turns };
+    ghost LONGEST = { 14 };
 
-    ghost levels = { (held_lawful fixed a_decimal as_fixed (λ x. refl) decimal_lawful).levels };
+    ghost limit = { refl };
 
-    ghost tokens = { (held_lawful fixed a_decimal as_fixed (λ x. refl) decimal_lawful).reads_tokens };
+    ghost turns = { decimal_laws.turns };
 
-    ghost nought = { (held_lawful fixed a_decimal as_fixed (λ x. refl) decimal_lawful).reads_zero };
+    ghost levels = { decimal_laws.levels };
 
-    ghost back = { (held_lawful fixed a_decimal as_fixed (λ x. refl) decimal_lawful).writes_back };
+    ghost tokens = { decimal_laws.reads_tokens };
 
-    fn token_limit() -> usize {
-        Self::LONGEST
-    }
+    ghost nought = { decimal_laws.reads_zero };
+
+    ghost back = { decimal_laws.writes_back };
 
     fn from_token(token: &[u8]) -> Option<Decimal>
         ensures is { result ≡ decimal_kind.read token.now }
@@ -70,19 +69,23 @@ impl Number for Decimal {
     }
 
     fn token_length(self) -> usize {
-        let ones = self.millionths.unsigned_abs() / 1_000_000;
-        minus_length(self.millionths) + decimal_length(ones) + fraction_length(self.places)
+        let ones = self.millionths.unsigned_abs() / MILLION;
+        minus(self.millionths).len()
+            + Buffer::new().format(ones).len()
+            + fraction_length(self.places)
     }
 
     fn write(self, out: &mut [u8]) -> Option<usize> {
-        let length = self.token_length();
-        if out.len() < length {
-            return None;
-        }
         let magnitude = self.millionths.unsigned_abs();
-        let start = put_minus(self.millionths, out);
-        let point = put_decimal(magnitude / 1_000_000, out, start);
-        Some(put_fraction(self.places, magnitude % 1_000_000, out, point))
+        let mut buffer = Buffer::new();
+        let ones = buffer.format(magnitude / MILLION);
+        let fraction = pointed(magnitude % MILLION);
+        write_parts(
+            minus(self.millionths).as_bytes(),
+            ones.as_bytes(),
+            &fraction[..fraction_length(self.places)],
+            out,
+        )
     }
 }
 
@@ -109,5 +112,5 @@ fn in_millionths(int: &[u8], places: &[u8]) -> u64
     ensures small { result < 2 ^ 63 }
 {
     let scale = 10_u64.pow(6 - places.len() as u32);
-    number_of(int) * 1_000_000 + number_of(places) * scale
+    number_of(int) * MILLION + number_of(places) * scale
 }

@@ -1,5 +1,5 @@
 // Signed numbers: a magnitude with its sign, and multiples.
-ghost use Rattle.std.specs.Prelude.{◌≡◌, ◌%◌, ◌^◌, ◌<◌, Decides, ◌==◌};
+ghost use Rattle.std.specs.Prelude.{◌≡◌, ◌^◌, ◌<◌, Decides};
 ghost use Rattle.numbers.specs.Laws.{Multiple};
 ghost use Rattle.numbers.specs.Reading.{signed_if, divides};
 
@@ -12,17 +12,10 @@ pub(crate) fn signed(minus: bool, n: u64) -> i64
     if minus { -z } else { z }
 }
 
-// Whether q divides x, as magnitudes; zero divides itself alone.
-fn divides_evenly(x: u64, q: u64) -> bool
-    ensures { result ≡ (x % q == 0) }
-{
-    if q == 0 { x == 0 } else { x % q == 0 }
-}
-
-// Whether x is some whole number times q.
+// Whether x is some whole number times q; zero is so of itself alone.
 pub(crate) fn is_multiple(x: i64, q: i64) -> bool
     ensures is { result ≡ divides x q }
     ensures times { Decides result (Multiple x q) }
 {
-    divides_evenly(x.unsigned_abs(), q.unsigned_abs())
+    x.unsigned_abs().is_multiple_of(q.unsigned_abs())
 }

@@ -1,5 +1,5 @@
 // What a number kind is, and how a number is read from a token.
-ghost use Rattle.std.specs.Prelude.{◌≡◌, length};
+ghost use Rattle.std.specs.Prelude.{◌≡◌, ℕ, length};
 ghost use Rattle.kinds.specs.Causes.{cause_number, outcome, outcome_at, ReadsBack};
 ghost use Rattle.kinds.specs.Writing.{Written};
 ghost use Rattle.numbers.specs.Kinds.{Kind, Turns, Levels, ReadsTokens, ReadsZero, WritesBack, above_zero};
@@ -22,12 +22,12 @@ pub struct NumberFault {
     pub cause: Cause,
 }
 
-impl Cause {
-    // The number by which a cause is reported.
-    pub fn number(self) -> u8
-        ensures { result ≡ cause_number self }
-    {
-        match self {
+// The number by which a cause is reported.
+impl From<Cause> for u8 {
+    ghost from_gives = { λ cause number. number ≡ cause_number cause };
+
+    fn from(cause: Cause) -> u8 {
+        match cause {
             Cause::TooLong => 1,
             Cause::Unsuited => 2,
         }
@@ -41,9 +41,7 @@ pub trait Number: Sized + Copy {
     // the longest token that the kind reads, in bytes
     const LONGEST: usize;
 
-    // LONGEST, as a clause can cite it.
-    fn token_limit() -> usize
-        ensures { result ≡ kind.longest };
+    ghost LONGEST: { ℕ };
 
     // The value that a token stands for, if the kind has one.
     fn from_token(token: &[u8]) -> Option<Self>
@@ -52,7 +50,7 @@ pub trait Number: Sized + Copy {
     fn zero() -> Self
         ensures { result ≡ kind.zero };
 
-    // How this value stands to another: before it, level with it, or after it.
+    // How this value stands to another: before it, level with it, or after it. Level values may differ, as 1.0 and 1.00 do, so this is no `Ord`.
     fn compare(self, other: Self) -> Ordering
         ensures { result ≡ kind.compare self other };
 
@@ -64,10 +62,7 @@ pub trait Number: Sized + Copy {
     fn is_positive(self) -> bool
         ensures { result ≡ above_zero kind self }
     {
-        match self.compare(Self::zero()) {
-            Ordering::Greater => true,
-            _ => false,
-        }
+        self.compare(Self::zero()).is_gt()
     }
 
     // How many bytes the token of this value has.
@@ -77,6 +72,9 @@ pub trait Number: Sized + Copy {
     // Writes the token of this value to the front of the memory and answers its length, or None where there is no room.
     fn write(self, out: &mut [u8]) -> Option<usize>
         ensures { Written (kind.written self) out.old out.new result };
+
+    // the constant is the longest that the meaning names
+    ghost limit: { LONGEST ≡ kind.longest };
 
     // comparing the other way round gives the turned answer
     ghost turns: { Turns kind };
@@ -100,21 +98,15 @@ pub fn read_number<K: Number>(token: &[u8]) -> Result<K, Cause>
     ensures is { result ≡ outcome K.Number.kind token.now }
     ensures back { ReadsBack K.Number.kind result }
 {
-    if token.len() > K::token_limit() {
+    if token.len() > K::LONGEST {
         return Err(Cause::TooLong);
     }
-    match K::from_token(token) {
-        Some(number) => Ok(number),
-        None => Err(Cause::Unsuited),
-    }
+    K::from_token(token).ok_or(Cause::Unsuited)
 }
 
 // Reads a number of the kind from the token at this place.
 pub fn read_number_at<K: Number>(token: &[u8], place: usize) -> Result<K, NumberFault>
     ensures { result ≡ outcome_at place (outcome K.Number.kind token.now) }
 {
-    match read_number(token) {
-        Ok(number) => Ok(number),
-        Err(cause) => Err(NumberFault { place, cause }),
-    }
+    read_number(token).map_err(|cause| NumberFault { place, cause })
 }

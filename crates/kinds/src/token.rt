@@ -2,7 +2,8 @@
 ghost use Rattle.std.specs.Prelude.{◌≡◌, ◌≤◌, length};
 ghost use Rattle.kinds.specs.Taking.{TakesApart, TakesAfter, TakesRest};
 ghost use Rattle.numbers.specs.Grammar.{Digits};
-ghost use Rattle.numbers.specs.Reading.{is_digit, digit_count, well_begun, only_digits};
+ghost use Rattle.std.specs.List.{list_all};
+ghost use Rattle.numbers.specs.Reading.{is_digit, digit_count, well_begun};
 ghost use Rattle.numbers.specs.Values.{number as number_of};
 
 // A token: whether it has a minus, the digits before the point and those after it.
@@ -13,39 +14,26 @@ pub(crate) struct Plain<'a> {
     pub places: &'a [u8],
 }
 
-fn is_digit(b: u8) -> bool
-    ensures { result ≡ is_digit b }
-{
-    b >= b'0' && b <= b'9'
-}
-
 // How many digits bytes begin with.
 fn digit_count(bytes: &[u8]) -> usize
-    ensures { result ≡ digit_count bytes.now }
+    ensures is { result ≡ digit_count bytes.now }
+    ensures within { result ≤ length bytes.now }
 {
-    for (i, b) in bytes.iter().enumerate() {
-        if !is_digit(*b) {
-            return i;
-        }
-    }
-    bytes.len()
+    bytes.iter().take_while(|b| b.is_ascii_digit()).count()
 }
 
 // Whether digits can begin a number: there are some, and a zero comes first only where it is alone.
 fn is_well_begun(digits: &[u8]) -> bool
     ensures { result ≡ well_begun digits.now }
 {
-    match digits {
-        [] => false,
-        [first, others @ ..] => *first > b'0' || others.len() == 0,
-    }
+    matches!(digits, [_] | [(b'1'..), ..])
 }
 
-// Whether bytes are digits alone, one at least.
-fn is_digits(bytes: &[u8]) -> bool
-    ensures { result ≡ only_digits bytes.now }
+// Whether bytes are digits alone.
+fn are_digits(bytes: &[u8]) -> bool
+    ensures { result ≡ list_all is_digit bytes.now }
 {
-    bytes.len() > 0 && digit_count(bytes) == bytes.len()
+    bytes.iter().all(u8::is_ascii_digit)
 }
 
 // The token of these digits, and of what follows them: nothing, or a point and digits.
@@ -61,13 +49,12 @@ fn with_rest<'a>(minus: bool, int: &'a [u8], rest: &'a [u8]) -> Option<Plain<'a>
             int,
             places: rest,
         }),
-        [point, places @ ..] => {
-            if *point == b'.' && is_digits(places) {
-                Some(Plain { minus, int, places })
-            } else {
-                None
-            }
-        }
+        [b'.', places @ ..] if !places.is_empty() && are_digits(places) => Some(Plain {
+            minus,
+            int,
+            places,
+        }),
+        _ => None,
     }
 }
 
@@ -83,9 +70,8 @@ pub(crate) fn take_apart(token: &[u8]) -> Option<Plain<'_>>
     ensures { TakesApart token.now result }
 {
     match token {
-        [] => None,
         [b'-', rest @ ..] => after_minus(true, rest),
-        [_, ..] => after_minus(false, token),
+        _ => after_minus(false, token),
     }
 }
 
@@ -94,9 +80,5 @@ pub(crate) fn number_of(digits: &[u8]) -> u64
     requires { (Digits digits.now) × (length digits.now ≤ 18) }
     ensures { result ≡ number_of digits.now }
 {
-    let mut n: u64 = 0;
-    for d in digits {
-        n = n * 10 + u64::from(*d - b'0');
-    }
-    n
+    digits.iter().fold(0, |n, d| n * 10 + u64::from(*d - b'0'))
 }

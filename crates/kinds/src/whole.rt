@@ -1,17 +1,16 @@
 // Whole numbers: no point, no exponent, and a magnitude of at most 10^15.
 ghost use Rattle.std.specs.Prelude.{◌≡◌, Decides, refl};
-ghost use Rattle.kinds.specs.Wholes.{whole_kind, value, a_whole};
+ghost use Rattle.kinds.specs.Wholes.{whole_kind, value};
 ghost use Rattle.numbers.specs.Laws.{Multiple};
 ghost use Rattle.numbers.specs.Kinds.{Kept, ReadsValue};
 ghost use Rattle.numbers.specs.Values.{MeansWhole};
-ghost use Rattle.numbers.specs.Reading.{whole};
-ghost use Rattle.numbers.proofs.Held.{held_lawful};
-ghost use Rattle.numbers.proofs.Wholes.{whole_lawful};
+ghost use Rattle.kinds.specs.Laws.{whole_laws};
 
 use crate::integer::{is_multiple, signed};
 use crate::number::Number;
 use crate::token::{number_of, take_apart};
-use crate::writing::{decimal_length, minus_length, put_decimal, put_minus};
+use crate::writing::write_token;
+use itoa::Buffer;
 use std::cmp::Ordering;
 
 // the greatest magnitude
@@ -27,19 +26,19 @@ impl Number for Whole {
 
     const LONGEST: usize = 17;
 
-    ghost turns = { (held_lawful whole a_whole value (λ z. refl) whole_lawful).turns };
+    ghost LONGEST = { 17 };
 
-    ghost levels = { (held_lawful whole a_whole value (λ z. refl) whole_lawful).levels };
+    ghost limit = { refl };
 
-    ghost tokens = { (held_lawful whole a_whole value (λ z. refl) whole_lawful).reads_tokens };
+    ghost turns = { whole_laws.turns };
 
-    ghost nought = { (held_lawful whole a_whole value (λ z. refl) whole_lawful).reads_zero };
+    ghost levels = { whole_laws.levels };
 
-    ghost back = { (held_lawful whole a_whole value (λ z. refl) whole_lawful).writes_back };
+    ghost tokens = { whole_laws.reads_tokens };
 
-    fn token_limit() -> usize {
-        Self::LONGEST
-    }
+    ghost nought = { whole_laws.reads_zero };
+
+    ghost back = { whole_laws.writes_back };
 
     fn from_token(token: &[u8]) -> Option<Whole>
         ensures is { result ≡ whole_kind.read token.now }
@@ -65,16 +64,12 @@ impl Number for Whole {
     }
 
     fn token_length(self) -> usize {
-        minus_length(self.value) + decimal_length(self.value.unsigned_abs())
+        Buffer::new().format(self.value).len()
     }
 
     fn write(self, out: &mut [u8]) -> Option<usize> {
-        let length = self.token_length();
-        if out.len() < length {
-            return None;
-        }
-        let start = put_minus(self.value, out);
-        Some(put_decimal(self.value.unsigned_abs(), out, start))
+        let mut buffer = Buffer::new();
+        write_token(buffer.format(self.value).as_bytes(), out)
     }
 }
 
@@ -83,7 +78,7 @@ fn whole_of(token: &[u8]) -> Option<Whole>
     ensures { result ≡ whole_kind.read token.now }
 {
     let plain = take_apart(token)?;
-    if plain.places.len() > 0 || plain.int.len() > 16 {
+    if !plain.places.is_empty() || plain.int.len() > 16 {
         return None;
     }
     let magnitude = number_of(plain.int);

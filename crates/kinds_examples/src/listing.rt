@@ -4,33 +4,46 @@ use kinds::number::Number;
 use kinds::whole::Whole;
 use lists::lent::LentList;
 
-// How many numbers of a slice are above zero.
-fn positives<K: Number>(numbers: &[K]) -> usize {
-    let mut count = 0usize;
-    for number in numbers {
-        if number.is_positive() {
-            count = count.saturating_add(1);
-        }
-    }
-    count
+// What a list with room for two does with three numbers.
+#[derive(Clone, Copy, PartialEq, Eq, Debug)]
+struct Filled {
+    // the places of the two that fit
+    places: [usize; 2],
+    // whether the third is refused
+    is_full: bool,
+    // how many of those that stand in it are above zero
+    positives: usize,
 }
 
-// What a list with room for two does with three numbers: the places of two, whether it is full then, and how many are above zero.
-fn fill<K: Number>(token: &[u8], slots: &mut [K]) -> Option<(usize, usize, bool, usize)> {
+fn fill<K: Number>(token: &[u8], slots: &mut [K]) -> Option<Filled> {
     let mut numbers = LentList::new(slots, 2);
     let number = K::from_token(token)?;
-    let first = numbers.push(number)?;
-    let second = numbers.push(K::zero())?;
-    let full = numbers.push(number).is_none();
-    Some((first, second, full, positives(numbers.as_slice())))
+    let places = [numbers.push(number)?, numbers.push(K::zero())?];
+    let is_full = numbers.push(number).is_none();
+    let positives = numbers
+        .as_slice()
+        .iter()
+        .filter(|number| number.is_positive())
+        .count();
+    Some(Filled {
+        places,
+        is_full,
+        positives,
+    })
 }
+
+const FILLED: Filled = Filled {
+    places: [0, 1],
+    is_full: true,
+    positives: 1,
+};
 
 #[test]
 fn a_list_grows_to_its_maximum(rt: HostRuntime) {
     let mut wholes = [Whole::zero(); 3];
-    assert_eq!(rt; fill(b"704", &mut wholes), Some((0, 1, true, 1)));
+    assert_eq!(rt; fill(b"704", &mut wholes), Some(FILLED));
     let mut decimals = [Decimal::zero(); 3];
-    assert_eq!(rt; fill(b"7.04", &mut decimals), Some((0, 1, true, 1)));
+    assert_eq!(rt; fill(b"7.04", &mut decimals), Some(FILLED));
     assert!(rt; !decimals[2].is_positive(), "memory past the list stays");
 }
 

@@ -7,24 +7,17 @@ use std::test::Fail;
 
 // The number of the cause that refuses a token, or 0.
 fn cause<K: Number + Drop>(token: &[u8]) -> u8 {
-    let read: Result<K, Cause> = read_number(token);
-    match read {
-        Ok(_) => 0,
-        Err(cause) => cause.number(),
-    }
+    read_number::<K>(token).err().map_or(0, u8::from)
 }
 
 // Whether a token is read and written as these bytes.
 fn is_written<K: Number>(token: &[u8], expected: &[u8]) -> bool {
-    let read: Result<K, Cause> = read_number(token);
     let mut out = [0u8; 20];
-    match read {
-        Ok(number) => match number.write(&mut out) {
-            Some(length) => length <= 20 && &out[0..length] == expected,
-            None => false,
-        },
-        Err(_) => false,
-    }
+    read_number::<K>(token)
+        .ok()
+        .and_then(|number| number.write(&mut out))
+        .and_then(|length| out.get(..length))
+        .is_some_and(|bytes| bytes == expected)
 }
 
 #[test]
@@ -59,6 +52,7 @@ fn decimals_keep_their_places(rt: HostRuntime) {
 
 #[test]
 fn decimals_compare_as_millionths(rt: HostRuntime) -> Result<(), Fail> {
+    // Not by `ok_or`, which would have to drop a `Fail` that isn't used, and a `Fail` can't be dropped.
     let Some(half) = Decimal::from_token(b"0.5") else {
         return Err(Fail::new("0.5 is a decimal"));
     };

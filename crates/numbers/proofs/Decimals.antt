@@ -2,15 +2,16 @@
 use Rattle.std.proofs.Common.{◌≡◌, ℕ, ◌+◌, ◌/◌, ◌%◌, ◌^◌, ◌<◌, ◌≤◌, cond, ◌&&◌, leb, List, [], ◌∷◌, ◌++◌, length, ℤ, pos, nat_abs, Some, None, decimal, Option, sym, refl, ap, ◌∙◌, subst, inl, inr, ⊎_elim, arith, length-append}
 use Rattle.std.proofs.lemmas.List.{append-nil}
 use Rattle.std.proofs.lemmas.Str.Parse.{digits_value_short}
-use Rattle.std.proofs.lemmas.Bool.{and_parts, and_from, and_left, and_right, cond-true, cond-false, leb-true, le-leb, lt-leb}
+use Rattle.std.proofs.lemmas.Bool.{and_parts, and_from, cond-true, leb-true, le-leb}
+use Rattle.std.specs.Ordering.{int_cmp}
+use Rattle.std.proofs.lemmas.Cmp.{int_cmp_total}
 use Rattle.numbers.specs.Grammar.{Digits, SomeDigits, Frac, Optional}
 use Rattle.numbers.specs.Kinds.{Kept}
 use Rattle.numbers.specs.Values.{number, places, signed_by, in_millionths, Fixed, MeansDecimal}
-use Rattle.numbers.specs.Reading.{Plain, taken_apart, pointed, signed_if, minus_of, order, decimal_of, fraction, fixed_written, fixed}
+use Rattle.numbers.specs.Reading.{Plain, taken_apart, pointed, signed_if, minus_of, decimal_of, fraction, fixed_written, fixed}
 use Rattle.numbers.specs.Laws.{Lawful, Keeps, DecimalReads}
 use Rattle.numbers.proofs.Digits.{numerals}
 use Rattle.numbers.proofs.Numerals.{signed_some, signed_cond, nat_abs_signed, minus_written, int_again, sign_kept}
-use Rattle.numbers.proofs.Orders.{order_turns, order_levels}
 use Rattle.numbers.proofs.Places.{millionths_of, six}
 use Rattle.numbers.proofs.Tokens.{some_if, parts_of, parts_found, found_parts, int_digits}
 
@@ -24,7 +25,7 @@ record From (o : Option Plain) (x : Fixed) : Type 0 where
   count : x.places ≡ length plain.places
 
 from : (o : Option Plain) (x : Fixed) → decimal_of o ≡ Some x → From o x
-from None x h = let e : ◌≡◌ {A = ℕ} 0 1 = cc in absurd (omega arith)
+from None x h = cc
 from (Some p) x h =
     let s = some_if (leb (length p.int + length p.places) 12 && leb (length p.places) 6) _ x h in
     let t = and_parts (leb (length p.int + length p.places) 12) _ s.0 in
@@ -154,7 +155,7 @@ kept bs (Some x) e =
     let written : fixed_written x ≡ minus_of (signed_by m.parts.minus n) ++ rest = written_is bs x m ∙ ap (λ v. minus_of v ++ rest) m.value in
     ⊎_elim (λ (same : bs ≡ minus_of (signed_by m.parts.minus n) ++ rest). inl (same ∙ sym written))
     (λ (zero : (bs ≡ 0x2D ∷ (minus_of (signed_by m.parts.minus n) ++ rest)) × (signed_by m.parts.minus n ≡ pos 0)).
-    inr (zero.0 ∙ ap (λ v. 0x2D ∷ v) (sym written), ap (λ v. order v (pos 0)) (m.value ∙ zero.1)))
+    inr (zero.0 ∙ ap (λ v. 0x2D ∷ v) (sym written), ap (λ v. int_cmp v (pos 0)) (m.value ∙ zero.1)))
     (sign_kept m.parts.minus n rest bs m.token.minus joined)
 
 pub decimal_keeps : Keeps fixed
@@ -162,8 +163,8 @@ decimal_keeps bs = kept bs (fixed.read bs) refl
 
 pub decimal_lawful : Lawful fixed
 decimal_lawful = record {
-  turns = λ x y. order_turns x.millionths y.millionths;
-  levels = λ x y z. order_levels x.millionths y.millionths z.millionths;
+  turns = λ x y. int_cmp_total.antisymm y.millionths x.millionths;
+  levels = λ x y z. int_cmp_total.congr x.millionths y.millionths z.millionths;
   reads_tokens = λ bs x h. let m = (decimal_reads bs x).0 h in (m.parts, m.token);
   reads_zero = refl;
   writes_back = λ bs x h.
@@ -171,11 +172,3 @@ decimal_lawful = record {
       let w = written_means bs x m in
       ((w.parts, w.token), written_short bs x m, (decimal_reads (fixed_written x) x).1 w);
 }
-
--- what a reader finds step by step
-module _ (p : Plain) where
-  pub unsuited_many : 12 < length p.int + length p.places → decimal_of (Some p) ≡ None
-  unsuited_many h = cond-false _ _ _ (and_left (leb (length p.int + length p.places) 12) _ (lt-leb _ _ h))
-
-  pub unsuited_fine : 6 < length p.places → decimal_of (Some p) ≡ None
-  unsuited_fine h = cond-false _ _ _ (and_right (leb (length p.int + length p.places) 12) _ (lt-leb _ _ h))

@@ -1,9 +1,10 @@
 -- Rows of digits: how many bytes begin with, and the numbers they write.
-use Rattle.std.proofs.Common.{◌≡◌, ℕ, zero, suc, ◌+◌, ◌-◌, ◌*◌, ◌^◌, ◌<◌, ◌≤◌, true, false, List, [], ◌∷◌, ◌++◌, length, get_or, take, drop, fold, sym, refl, ◌∙◌, subst, ⊎_elim, one-add, arith, rules}
-use Rattle.std.proofs.lemmas.List.{take_all, length-take}
+use Rattle.std.proofs.Common.{◌≡◌, ℕ, zero, suc, ◌+◌, ◌-◌, ◌*◌, ◌^◌, ◌<◌, ◌≤◌, true, false, List, [], ◌∷◌, ◌++◌, length, get_or, take, fold, sym, refl, ◌∙◌, subst, ⊎_elim, one-add, arith, rules}
+use Rattle.std.proofs.lemmas.List.{length-take}
 use Rattle.std.proofs.lemmas.Str.Parse.{IsNumeralModel, numerals_by_fold, digits_value_short}
-use Rattle.std.proofs.lemmas.List.Sums.{fold_more, prefix_len-drop_yes, prefix_len-drop_no, prefix_len-drop_all}
-use Rattle.std.proofs.lemmas.Bool.{cond-true, cond-false, cases_Bool}
+use Rattle.std.proofs.lemmas.List.Sums.{fold_more}
+use Rattle.std.specs.List.{list_all}
+use Rattle.std.proofs.lemmas.Bool.{cond-true, cond-false, cases_Bool, and_parts, and_from}
 use Rattle.std.proofs.lemmas.Bool.Decides.{nat_tests}
 use Rattle.numbers.specs.Grammar.{Digit, Digits}
 use Rattle.numbers.specs.Values.{number}
@@ -39,23 +40,13 @@ front_digits (b ∷ bs) =
     (λ (e : is_digit b ≡ false). subst (λ n. Digits (take n (b ∷ bs))) (sym (cond-false (is_digit b) (1 + digit_count bs) 0 e)) tt)
     (cases_Bool (is_digit b))
 
-pub all_digits : (bs : List ℕ) → digit_count bs ≡ length bs → Digits bs
-all_digits bs e = subst Digits (take_all (length bs) bs (omega arith)) (subst (λ n. Digits (take n bs)) e (front_digits bs))
+pub all_digits : (bs : List ℕ) → list_all is_digit bs ≡ true → Digits bs
+all_digits [] e = tt
+all_digits (b ∷ bs) e = let p = and_parts (is_digit b) (list_all is_digit bs) e in (yes_digit b p.0, all_digits bs p.1)
 
-pub count_all : (bs : List ℕ) → Digits bs → digit_count bs ≡ length bs
-count_all [] h = refl
-count_all (b ∷ bs) h = cond-true (is_digit b) (1 + digit_count bs) 0 (digit_yes b h.0) ∙ omega (arith, count_all bs h.1)
-
--- the steps of a count from the left
-module _ (bs : List ℕ) (i : ℕ) where
-  pub counted_stop : i < length bs → is_digit (get_or bs i 0) ≡ false → i + digit_count (drop i bs) ≡ digit_count bs → i ≡ digit_count bs
-  counted_stop l e h = omega (arith, prefix_len-drop_no is_digit bs i 0 l e)
-
-  pub counted_more : i < length bs → is_digit (get_or bs i 0) ≡ true → i + digit_count (drop i bs) ≡ digit_count bs → i + 1 + digit_count (drop (i + 1) bs) ≡ digit_count bs
-  counted_more l e h = omega (arith, prefix_len-drop_yes is_digit bs i 0 l e)
-
-  pub counted_all : length bs ≤ i → i + digit_count (drop i bs) ≡ digit_count bs → i ≡ digit_count bs
-  counted_all l h = omega (arith, prefix_len-drop_all is_digit bs i l)
+pub digits_all : (bs : List ℕ) → Digits bs → list_all is_digit bs ≡ true
+digits_all [] h = refl
+digits_all (b ∷ bs) h = and_from (is_digit b) (list_all is_digit bs) (digit_yes b h.0) (digits_all bs h.1)
 
 pub digit_at : (ds : List ℕ) (i : ℕ) → Digits ds → i < length ds → Digit (get_or ds i 0)
 digit_at [] i h l = absurd (omega arith)

@@ -1,4 +1,3 @@
-pub mod Orders
 pub mod Multiples
 pub mod Digits
 pub mod Tokens

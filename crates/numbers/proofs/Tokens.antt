@@ -5,11 +5,11 @@ use Rattle.std.proofs.lemmas.Bool.{cases_lt, cases_Bool, and_parts, and_from, co
 use Rattle.numbers.specs.Grammar.{Digit, DigitOneToNine, Digits, SomeDigits, Optional, Minus, Int, Frac, Parts, Number}
 use Rattle.numbers.specs.Values.{places}
 use Rattle.numbers.specs.Reading.{Plain, plain, is_digit, digit_count, well_begun, only_digits, with_rest, after_minus, taken_apart, pointed}
-use Rattle.numbers.proofs.Digits.{Stops, count_digits, front_digits, all_digits, count_all}
+use Rattle.numbers.proofs.Digits.{Stops, count_digits, front_digits, all_digits, digits_all}
 
 pub some_if : {X : Type 0} (b : Bool) (x y : X) → cond b (Some x) None ≡ Some y → (b ≡ true) × (x ≡ y)
 some_if true x y h = (refl, cc)
-some_if false x y h = let z : ◌≡◌ {A = ℕ} 0 1 = cc in absurd (omega arith)
+some_if false x y h = cc
 
 -- whether there is a minus
 abbrev pub is_some : List ℕ → Bool
@@ -43,7 +43,7 @@ int_begins (b ∷ bs) h =
     h
 
 pub begun_int : (bs : List ℕ) → Digits bs → well_begun bs ≡ true → Int bs
-begun_int [] h e = let z : ◌≡◌ {A = ℕ} 0 1 = cc in absurd (omega arith)
+begun_int [] h e = cc
 begun_int (b ∷ bs) h e =
     ⊎_elim
     (λ (l : ltb 0x30 b ≡ true). inr ((omega (arith, ltb-true 0x30 b l), omega arith), h.1))
@@ -57,11 +57,11 @@ frac_stops (b ∷ bs) (inr h) = subst (λ x. is_digit x ≡ false) (sym h.0) ref
 
 only_yes : (bs : List ℕ) → SomeDigits bs → only_digits bs ≡ true
 only_yes [] h = absurd h
-only_yes (b ∷ bs) h = and_from _ _ (lt-ltb 0 (length (b ∷ bs)) (omega arith)) (eq-eqb _ _ (count_all (b ∷ bs) h))
+only_yes (b ∷ bs) h = and_from _ _ (lt-ltb 0 (length (b ∷ bs)) (omega arith)) (digits_all (b ∷ bs) h)
 
 yes_only : (bs : List ℕ) → only_digits bs ≡ true → SomeDigits bs
-yes_only [] h = let z : ◌≡◌ {A = ℕ} 0 1 = cc in absurd (omega arith)
-yes_only (b ∷ bs) h = all_digits (b ∷ bs) (eqb-true _ _ (and_parts (ltb 0 (length (b ∷ bs))) _ h).1)
+yes_only [] h = cc
+yes_only (b ∷ bs) h = all_digits (b ∷ bs) (and_parts (ltb 0 (length (b ∷ bs))) _ h).1
 
 -- from the grammar to the parts that are found
 
@@ -139,7 +139,7 @@ is_number m bs p f = record {
     sign false = inl refl
 
 pub found_parts : (bs : List ℕ) (p : Plain) → taken_apart bs ≡ Some p → Number bs (parts_of p)
-found_parts [] p e = let z : ◌≡◌ {A = ℕ} 0 1 = cc in absurd (omega arith)
+found_parts [] p e = cc
 found_parts (b ∷ bs) p e =
     ⊎_elim
     (λ (t : eqb b 0x2D ≡ true).

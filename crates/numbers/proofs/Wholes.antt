@@ -4,14 +4,15 @@ use Rattle.std.proofs.lemmas.Fmt.{length-decimal-le, digits_value-decimal}
 use Rattle.std.proofs.lemmas.List.{append-nil, nil_from_length}
 use Rattle.std.proofs.lemmas.Bool.{and_parts, and_from, and_left, and_right, cases_lt, cond-true, cond-false, eqb-true, ne_eqb, lt-leb, eq-eqb, leb-true, le-leb}
 use Rattle.std.specs.Fmt.{signed_decimal}
+use Rattle.std.specs.Ordering.{int_cmp}
+use Rattle.std.proofs.lemmas.Cmp.{int_cmp_total}
 use Rattle.numbers.specs.Grammar.{Int}
 use Rattle.numbers.specs.Kinds.{WritesBack, Kept}
 use Rattle.numbers.specs.Values.{number, places, signed_by, MeansWhole}
-use Rattle.numbers.specs.Reading.{Plain, taken_apart, pointed, signed_if, minus_of, order, whole_of, whole}
+use Rattle.numbers.specs.Reading.{Plain, taken_apart, pointed, signed_if, minus_of, whole_of, whole}
 use Rattle.numbers.specs.Laws.{Lawful, Keeps, WholeReads}
 use Rattle.numbers.proofs.Digits.{numerals}
 use Rattle.numbers.proofs.Numerals.{signed_some, signed_cond, nat_abs_signed, minus_written, signed_is, int_decimal, int_again, sign_kept}
-use Rattle.numbers.proofs.Orders.{order_turns, order_levels}
 use Rattle.numbers.proofs.Tokens.{some_if, parts_of, parts_found, found_parts}
 
 -- what a token that is read as z was taken apart into
@@ -23,7 +24,7 @@ record From (o : Option Plain) (z : ℤ) : Type 0 where
   value : z ≡ signed_if plain.minus (number plain.int)
 
 from : (o : Option Plain) (z : ℤ) → whole_of o ≡ Some z → From o z
-from None z h = let e : ◌≡◌ {A = ℕ} 0 1 = cc in absurd (omega arith)
+from None z h = cc
 from (Some p) z h =
     let s = some_if (eqb (length p.places) 0 && leb (number p.int) (10 ^ 15)) _ z h in
     let t = and_parts (eqb (length p.places) 0) _ s.0 in
@@ -93,7 +94,7 @@ kept bs (Some z) e =
     signed_is z ∙ ap (λ x. minus_of z ++ x) int_is ∙ ap (λ v. minus_of v ++ m.parts.int) m.value in
     ⊎_elim (λ (same : bs ≡ minus_of (signed_by m.parts.minus n) ++ m.parts.int). inl (same ∙ sym written))
     (λ (zero : (bs ≡ 0x2D ∷ (minus_of (signed_by m.parts.minus n) ++ m.parts.int)) × (signed_by m.parts.minus n ≡ pos 0)).
-    inr (zero.0 ∙ ap (λ x. 0x2D ∷ x) (sym written), ap (λ v. order v (pos 0)) (m.value ∙ zero.1)))
+    inr (zero.0 ∙ ap (λ x. 0x2D ∷ x) (sym written), ap (λ v. int_cmp v (pos 0)) (m.value ∙ zero.1)))
     (sign_kept m.parts.minus n m.parts.int bs m.token.minus joined)
 
 pub whole_keeps : Keeps whole
@@ -101,8 +102,8 @@ whole_keeps bs = kept bs (whole.read bs) refl
 
 pub whole_lawful : Lawful whole
 whole_lawful = record {
-  turns = order_turns;
-  levels = order_levels;
+  turns = λ x y. int_cmp_total.antisymm y x;
+  levels = int_cmp_total.congr;
   reads_tokens = λ bs z h. let m = (whole_reads bs z).0 h in (m.parts, m.token);
   reads_zero = refl;
   writes_back = writes_back;

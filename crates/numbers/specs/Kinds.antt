@@ -1,6 +1,8 @@
 -- What a number kind is, and the laws of every kind.
-use Rattle.std.specs.Prelude.{◌≡◌, ℕ, ◌≤◌, Bool, true, false, ◌⊎◌, List, ◌∷◌, length, Some, None, codes, Option}
-use Rattle.std.specs.declared.cmp.Ordering.TheVariants.{Less, Equal, Greater}
+use Rattle.std.specs.Prelude.{◌≡◌, ℕ, ◌≤◌, Bool, ◌⊎◌, List, ◌∷◌, length, Some, None, codes, Option}
+use Rattle.std.specs.Option.{option_map}
+use Rattle.std.specs.Ordering.{ordering_reverse, is_gt}
+use Rattle.std.specs.declared.cmp.Ordering.TheVariants.{Equal}
 use Rattle.std.specs.declared.cmp.Ordering.{Ordering}
 use Rattle.numbers.specs.Grammar.{Token}
 
@@ -16,19 +18,12 @@ pub record Kind (K : Type 0) : Type 0 where
 
 -- the answer to the comparison the other way round
 abbrev pub turned : Ordering → Ordering
-turned Less = Greater
-turned Equal = Equal
-turned Greater = Less
-
-abbrev pub is_after : Ordering → Bool
-is_after Less = false
-is_after Equal = false
-is_after Greater = true
+turned side = ordering_reverse side
 
 module _ {K : Type 0} (kind : Kind K) where
   -- a value above zero
   abbrev pub above_zero : K → Bool
-  above_zero x = is_after (kind.compare x kind.zero)
+  above_zero x = is_gt (kind.compare x kind.zero)
 
   -- comparing the other way round gives the turned answer
   abbrev pub Turns : Type 0
@@ -68,16 +63,11 @@ abbrev pub ReadsValue : {V K : Type 0} → (List ℕ → V → Type 0) → (K �
 ReadsValue Means value token (Some x) = Means token (value x)
 ReadsValue {V} Means value token None = (v : V) → Means token v → ⊥
 
--- what is there, changed
-abbrev pub mapped : {A B : Type 0} → (A → B) → Option A → Option B
-mapped f None = None
-mapped f (Some x) = Some (f x)
-
 -- a kind whose values are held in another type
 abbrev pub held : {V K : Type 0} → Kind V → (V → K) → (K → V) → Kind K
 held kind hold value = record {
   longest = kind.longest;
-  read = λ bs. mapped hold (kind.read bs);
+  read = λ bs. option_map hold (kind.read bs);
   written = λ x. kind.written (value x);
   compare = λ x y. kind.compare (value x) (value y);
   multiple = λ x q. kind.multiple (value x) (value q);

@@ -1,9 +1,8 @@
 -- How tokens without an exponent are read and written, step by step. That this is the grammar and its values is proved in proofs/.
-use Rattle.std.specs.Prelude.{ℕ, ◌+◌, ◌/◌, ◌%◌, ◌^◌, Bool, true, false, cond, ◌&&◌, ◌||◌, List, [], ◌∷◌, ◌++◌, length, take, drop, ℤ, pos, negsuc, neg_ℤ, Some, None, decimal, Option, ◌==◌, int_lt, nat_le, nat_lt, unsigned_abs}
-use Rattle.std.specs.declared.cmp.Ordering.TheVariants.{Less, Equal, Greater}
-use Rattle.std.specs.declared.cmp.Ordering.{Ordering}
+use Rattle.std.specs.Prelude.{ℕ, ◌+◌, ◌/◌, ◌%◌, ◌^◌, Bool, true, false, cond, ◌&&◌, ◌||◌, List, [], ◌∷◌, ◌++◌, length, take, drop, ℤ, pos, negsuc, neg_ℤ, Some, None, decimal, Option, ◌==◌, nat_le, nat_lt, unsigned_abs}
+use Rattle.std.specs.Ordering.{int_cmp}
 use Rattle.std.specs.Fmt.{signed_decimal}
-use Rattle.std.specs.List.{prefix_len}
+use Rattle.std.specs.List.{prefix_len, list_all}
 use Rattle.numbers.specs.Kinds.{Kind}
 use Rattle.numbers.specs.Values.{number, in_millionths, Fixed}
 
@@ -30,7 +29,7 @@ well_begun (b ∷ bs) = nat_lt 0x30 b || length bs == 0
 
 -- digits alone, one at least
 abbrev pub only_digits : List ℕ → Bool
-only_digits bs = nat_lt 0 (length bs) && digit_count bs == length bs
+only_digits bs = nat_lt 0 (length bs) && list_all is_digit bs
 
 -- the token of these digits, and of what follows them: nothing, or a point and digits
 abbrev pub with_rest : Bool → List ℕ → List ℕ → Option Plain
@@ -49,10 +48,6 @@ taken_apart (b ∷ bs) = cond (b == 0x2D) (after_minus true bs) (after_minus fal
 abbrev pub signed_if : Bool → ℕ → ℤ
 signed_if minus n = cond minus (neg_ℤ (pos n)) (pos n)
 
--- how one number stands to another
-abbrev pub order : ℤ → ℤ → Ordering
-order x y = cond (int_lt x y) Less (cond (int_lt y x) Greater Equal)
-
 -- whether the magnitude of q divides that of x; zero divides itself alone
 abbrev pub divides : ℤ → ℤ → Bool
 divides x q = unsigned_abs x % unsigned_abs q == 0
@@ -66,7 +61,7 @@ whole = record {
   longest = 17;
   read = λ bs. whole_of (taken_apart bs);
   written = signed_decimal;
-  compare = order;
+  compare = int_cmp;
   multiple = divides;
   zero = pos 0;
 }
@@ -103,7 +98,7 @@ fixed = record {
   longest = 14;
   read = λ bs. decimal_of (taken_apart bs);
   written = fixed_written;
-  compare = λ x y. order x.millionths y.millionths;
+  compare = λ x y. int_cmp x.millionths y.millionths;
   multiple = λ x q. divides x.millionths q.millionths;
   zero = record { millionths = pos 0; places = 0 };
 }

@@ -1,5 +1,5 @@
 -- The bytes of a row are read as that row, and bytes that are read as a row are its bytes.
-use Rattle.std.proofs.Common.{◌≡◌, ℕ, ◌<◌, eqb, List, length, get_or, Some, None, Option, sym, refl, ap, ◌∙◌, arith}
+use Rattle.std.proofs.Common.{◌≡◌, ℕ, ◌<◌, eqb, List, length, get_or, Some, None, Option, sym, refl, ap, ◌∙◌}
 use Rattle.std.proofs.lemmas.Bool.{eqb-true}
 use Rattle.rules.specs.declared.row.Row.{Row}
 use Rattle.rows.specs.declared.fields.Ends.{Ends}
@@ -19,7 +19,7 @@ pub bytes_back : (row : Row) → WellEnded row → row_of (row_bytes row) ≡ So
 bytes_back row ended = ap row_from_any (fields_back (fields_of row)) ∙ row_back row ended
 
 with_some : (k a b : ℕ) (o : Option Ends) (f : Fields) → with_ends k a b o ≡ Some f → (e : Ends) × (o ≡ Some e) × (fields k a b e ≡ f)
-with_some k a b None f h = let z : ◌≡◌ {A = ℕ} 0 1 = cc in absurd (omega arith)
+with_some k a b None f h = cc
 with_some k a b (Some e) f h = (e, refl, cc)
 
 -- bytes that are read as fields are their bytes
@@ -31,7 +31,7 @@ fields_are bytes f small h =
     ∙ ap bytes_of w.2
 
 any_some : (o : Option Fields) (row : Row) → row_from_any o ≡ Some row → (f : Fields) × (o ≡ Some f) × (row_from f ≡ Some row)
-any_some None row h = let z : ◌≡◌ {A = ℕ} 0 1 = cc in absurd (omega arith)
+any_some None row h = cc
 any_some (Some f) row h = (f, refl, h)
 
 -- what bytes are read as is the row whose bytes they are

@@ -30,7 +30,7 @@ ends_written bits lower upper e h =
     rw (← a.1) (record { flags = eqb-true bits 2 t.0; low = eqb-true lower 0 t.1; high = refl }))
     (λ h. ⊎_elim
     (λ a. rw (← a.1) (record { flags = eqb-true bits 3 a.0; low = refl; high = refl }))
-    (λ h. let z : ◌≡◌ {A = ℕ} 0 1 = cc in absurd (omega arith))
+    (λ h. cc)
     (cond_some (eqb bits 3) _ e _ h))
     (cond_some (eqb bits 2 && eqb lower 0) _ e _ h))
     (cond_some (eqb bits 1 && eqb upper 0) _ e _ h))

@@ -1,10 +1,22 @@
 -- The fields of a row, how ten bytes hold them, and how they are read.
 use Rattle.std.specs.Prelude.{◌≡◌, ℕ, ◌+◌, ◌*◌, ◌/◌, ◌%◌, cond, ◌&&◌, List, [], ◌∷◌, length, Some, None, Option, ◌==◌, ◌≢◌, slice_index}
+use Rattle.rules.specs.declared.row.Bounds.{Bounds}
+use Rattle.rules.specs.declared.row.Range.{Range}
 use Rattle.rows.specs.declared.fields.Ends.{Ends}
 use Rattle.rows.specs.declared.fields.Fields.{Fields}
 
 abbrev pub ends : Option ℕ → Option ℕ → Ends
 ends lower upper = record { lower = lower; upper = upper }
+
+-- no end is present
+abbrev pub no_ends : Ends
+no_ends = ends None None
+
+abbrev pub range_ends : Range → Ends
+range_ends range = ends (Some range.lower) range.upper
+
+abbrev pub bounds_ends : Bounds → Ends
+bounds_ends bounds = ends bounds.lower bounds.upper
 
 abbrev pub fields : ℕ → ℕ → ℕ → Ends → Fields
 fields operator first second e = record { operator = operator; first = first; second = second; ends = e }

@@ -4,26 +4,15 @@ use Rattle.std.specs.Option.{option_map, option_flatten}
 use Rattle.std.specs.Bool.{then_some}
 use Rattle.std.specs.List.{slice_get}
 use Rattle.rules.specs.Book.{Ended}
+use Rattle.rules.specs.Types.{types, is_short}
 use Rattle.rules.specs.Value.{type_index}
 use Rattle.rules.specs.declared.row.Bounds.{Bounds}
 use Rattle.rules.specs.declared.row.Range.{Range}
 use Rattle.rules.specs.declared.row.Row.{Row}
 use Rattle.rules.specs.declared.row.Row.TheVariants.{True, False, OfType, BooleanIs, Pattern, NotPattern, Length, Between, StrictlyBetween, Multiple, NotMultiple, EveryMember, SomeMember, Members, EveryElement, SomeElement, Count, And, Or, Not, Variable}
-use Rattle.rules.specs.declared.row.ValueType.{ValueType}
-use Rattle.rules.specs.declared.row.ValueType.TheVariants.{Null, Boolean, Number, Text, List as Listed, Object}
 use Rattle.rows.specs.declared.fields.Ends.{Ends}
 use Rattle.rows.specs.declared.fields.Fields.{Fields}
-use Rattle.rows.specs.Fields.{ends, fields, bytes_of, fields_from}
-
--- no end is present
-abbrev pub no_ends : Ends
-no_ends = ends None None
-
-abbrev pub range_ends : Range → Ends
-range_ends range = ends (Some range.lower) range.upper
-
-abbrev pub bounds_ends : Bounds → Ends
-bounds_ends bounds = ends bounds.lower bounds.upper
+use Rattle.rows.specs.Fields.{fields, no_ends, range_ends, bounds_ends, bytes_of, fields_from}
 
 -- The fields of a row: the operator's number, first, second and the ends. What an operator does not use is 0, or absent.
 abbrev pub fields_of : Row → Fields
@@ -83,24 +72,17 @@ ReadsRow bytes (Some row) =
     (bytes ≡ row_bytes row) × WellEnded row × ((other : Row) → WellEnded other → bytes ≡ row_bytes other → other ≡ row)
 ReadsRow bytes None = (other : Row) → WellEnded other → bytes ≢ row_bytes other
 
--- types and booleans in the order of their numbers
-abbrev pub types : List ValueType
-types = Null ∷ Boolean ∷ Number ∷ Text ∷ Listed ∷ Object ∷ []
-
+-- booleans in the order of their numbers
 abbrev pub booleans : List Bool
 booleans = false ∷ true ∷ []
 
 abbrev pub unended : Ends → Bool
 unended e = not (is_some e.lower) && not (is_some e.upper)
 
--- the ends of a range: the lower is present, the upper at most 65,534
-abbrev pub up_to : ℕ → Option ℕ → Option Range
-up_to l None = Some (record { lower = l; upper = None })
-up_to l (Some u) = cond (u == 65535) None (Some (record { lower = l; upper = Some u }))
-
+-- the range of two ends: the lower is present, the upper at most 65,534
 abbrev pub range_between : Option ℕ → Option ℕ → Option Range
-range_between None u = None
-range_between (Some l) u = up_to l u
+range_between None upper = None
+range_between (Some lower) upper = then_some (is_short upper) (record { lower = lower; upper = upper })
 
 abbrev pub range_from : Ends → Option Range
 range_from e = range_between e.lower e.upper

@@ -1,25 +1,10 @@
 // Reads a row from its ten bytes.
 ghost use Rattle.std.specs.Prelude.{◌≡◌};
 ghost use Rattle.std.specs.List.{slice_get};
-ghost use Rattle.rows.specs.Rows.{ReadsRow, row_of, row_from, types, booleans, unended, alone as alone_from, first_alone, second_alone, range_from, range_alone, bounds_alone};
+ghost use Rattle.rows.specs.Rows.{ReadsRow, row_of, row_from, booleans, unended, alone as alone_from, first_alone, second_alone, range_from, range_alone, bounds_alone};
 
 use crate::fields::{Ends, Fields, fields_of};
 use rules::row::{Bounds, Range, Row, ValueType};
-
-// The type of this number.
-fn type_of(number: u16) -> Option<ValueType>
-    ensures { result ≡ slice_get types number }
-{
-    match number {
-        0 => Some(ValueType::Null),
-        1 => Some(ValueType::Boolean),
-        2 => Some(ValueType::Number),
-        3 => Some(ValueType::Text),
-        4 => Some(ValueType::List),
-        5 => Some(ValueType::Object),
-        _ => None,
-    }
-}
 
 // The boolean of this number.
 fn boolean_of(number: u16) -> Option<bool>
@@ -44,11 +29,11 @@ impl Ends {
     fn range(self) -> Option<Range>
         ensures { result ≡ range_from self }
     {
-        let lower = self.lower?;
-        match self.upper {
-            Some(65535) => None,
-            upper => Some(Range { lower, upper }),
-        }
+        let range = Range {
+            lower: self.lower?,
+            upper: self.upper,
+        };
+        range.is_ended().then_some(range)
     }
 }
 
@@ -57,33 +42,21 @@ impl Fields {
     fn alone(self, row: Row) -> Option<Row>
         ensures { result ≡ alone_from row self }
     {
-        if self.first == 0 && self.second == 0 && self.ends.are_absent() {
-            Some(row)
-        } else {
-            None
-        }
+        (self.first == 0 && self.second == 0 && self.ends.are_absent()).then_some(row)
     }
 
     // The first operand, if nothing else is used.
     fn first_alone(self) -> Option<u16>
         ensures { result ≡ first_alone self }
     {
-        if self.second == 0 && self.ends.are_absent() {
-            Some(self.first)
-        } else {
-            None
-        }
+        (self.second == 0 && self.ends.are_absent()).then_some(self.first)
     }
 
     // The second operand, if nothing else is used.
     fn second_alone(self) -> Option<u16>
         ensures { result ≡ second_alone self }
     {
-        if self.first == 0 && self.ends.are_absent() {
-            Some(self.second)
-        } else {
-            None
-        }
+        (self.first == 0 && self.ends.are_absent()).then_some(self.second)
     }
 
     // The range, if no operand is used.
@@ -102,21 +75,17 @@ impl Fields {
         ensures { result ≡ bounds_alone self }
     {
         let Ends { lower, upper } = self.ends;
-        if self.first == 0 && self.second == 0 {
-            Some(Bounds { lower, upper })
-        } else {
-            None
-        }
+        (self.first == 0 && self.second == 0).then_some(Bounds { lower, upper })
     }
 
-    // The row that these fields are.
+    // The row that these fields are. An enum of the operators would be two tables of its own beside this one and that of writing.
     fn row(self) -> Option<Row>
         ensures { result ≡ row_from self }
     {
         match self.operator {
             1 => self.alone(Row::True),
             2 => self.alone(Row::False),
-            3 => Some(Row::OfType(type_of(self.first_alone()?)?)),
+            3 => Some(Row::OfType(ValueType::try_from(self.first_alone()?).ok()?)),
             4 => Some(Row::BooleanIs(boolean_of(self.first_alone()?)?)),
             5 => Some(Row::Pattern(self.first_alone()?)),
             6 => Some(Row::NotPattern(self.first_alone()?)),

@@ -1,10 +1,11 @@
 -- The fields that were read are those that the bytes hold.
-use Rattle.std.proofs.Common.{refl, arith, rules}
+use Rattle.std.proofs.Common.{◌≡◌, ◌+◌, ◌*◌, get_or, Some, refl, arith, rules}
+use Rattle.rows.specs.Fields.{ends_from}
 use Rattle.rows.proofs.Bytes.{fields_written, ends_written}
 use Rattle.rows.proofs.fields.fields_of.Goals as goal
 
-pub returns : goal.returns
-returns c = record {
-  is = search rules;
-  holds = fields_written c.args.bytes.now _ (search rules) (λ i. omega (arith, c.type_inv.bytes i)) refl c.word-3.ensures c.word-4.ensures (ends_written _ _ _ _ (search rules));
-}
+pub returns-clause-holds : goal.returns-clause-holds
+returns-clause-holds c =
+    let bs = c.args.bytes.now in
+    let found : ends_from (get_or bs 1 0) (get_or bs 6 0 * 256 + get_or bs 7 0) (get_or bs 8 0 * 256 + get_or bs 9 0) ≡ Some c.in_ok-ends_of.field-0 = search rules in
+    fields_written bs _ (search rules) (λ i. omega (arith, c.type_inv.bytes i)) refl c.from_be_bytes.ensures c.from_be_bytes-2.ensures (ends_written _ _ _ _ found)
