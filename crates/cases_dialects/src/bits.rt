@@ -21,10 +21,7 @@ pub(crate) fn answer_bits<D: Dialect>(
 ) -> Result<String, AllocError>
     ensures { IfOk result (λ s. string_bytes s ≡ bits (λ k. answer (D.Dialect.count dialect.now) (D.Dialect.holds dialect.now) k text.now) (D.Dialect.count dialect.now + 2)) }
 {
-    let mut shown = String::new(heap);
-    let end = dialect.pattern_count() + 2;
-    for pattern in 0..end {
-        shown.push(bit(dialect.is_match(pattern, text)))?;
-    }
-    Ok(shown)
+    (0..dialect.pattern_count() + 2)
+        .map(|pattern| bit(dialect.is_match(pattern, text)))
+        .collect(heap)
 }
