@@ -5,6 +5,7 @@ ghost use Rattle.cases.specs.declared.fault.LineFault.TheVariants.{Unreadable, O
 use std::alloc::{AllocError, AllocFailed};
 use std::str::Utf8Error;
 
+// Each `From` is written out: of what a derive makes nothing is proved.
 #[derive(Clone, Copy)]
 pub enum LineFault {
     Unreadable,

@@ -8,7 +8,7 @@ use clearing::fault::ClearFault;
 use dialects::fault::PatternFault;
 use faults::Refusal;
 
-// The first refusal of the files, or of the clearing.
+// The first refusal of the files, or of the clearing. Each `From` is written out: of what a derive makes nothing is proved.
 #[derive(Clone, Copy)]
 pub(crate) enum Fault {
     Patterns(PatternFault),

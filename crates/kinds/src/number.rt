@@ -47,6 +47,7 @@ pub trait Number: Sized + Copy {
     fn from_token(token: &[u8]) -> Option<Self>
         ensures { result ≡ kind.read token.now };
 
+    // The zero that the laws speak of. `Default` would not say which value it is.
     fn zero() -> Self
         ensures { result ≡ kind.zero };
 

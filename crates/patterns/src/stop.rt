@@ -7,6 +7,7 @@ use dialects::fault::PatternFault;
 use faults::Refusal;
 use std::alloc::{AllocError, Global};
 
+// Each `From` is written out: of what a derive makes nothing is proved.
 #[derive(Clone, Copy)]
 pub(crate) enum Stop {
     // a file is refused

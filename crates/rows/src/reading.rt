@@ -6,7 +6,7 @@ ghost use Rattle.rows.specs.Rows.{ReadsRow, row_of, row_from, booleans, unended,
 use crate::fields::{Ends, Fields, fields_of};
 use rules::row::{Bounds, Range, Row, ValueType};
 
-// The boolean of this number.
+// The boolean of this number. A table, since the library turns a boolean into a number and not back.
 fn boolean_of(number: u16) -> Option<bool>
     ensures { result ≡ slice_get booleans number }
 {
@@ -45,7 +45,7 @@ impl Fields {
         (self.first == 0 && self.second == 0 && self.ends.are_absent()).then_some(row)
     }
 
-    // The first operand, if nothing else is used.
+    // The first operand, if nothing else is used. This one and the next are a line each; one function over the field would be no shorter.
     fn first_alone(self) -> Option<u16>
         ensures { result ≡ first_alone self }
     {

@@ -59,7 +59,7 @@ fn row_fields(row: Row) -> Fields
     }
 }
 
-// The byte that tells which ends are present: bit 0 the lower, bit 1 the upper.
+// The byte that tells which ends are present: bit 0 the lower, bit 1 the upper. A table shows the four bytes; a sum of bits would hide them.
 fn present(ends: Ends) -> u8
     ensures { result ≡ present_by ends }
 {
