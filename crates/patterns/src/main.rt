@@ -2,8 +2,8 @@
 #![tactic(auto)]
 
 ghost use Rattle.std.specs.Prelude.{◌≡◌, IfOk};
-ghost use Rattle.dialects.specs.Files.{room};
-ghost use Rattle.patterns.specs.Answers.{Prints, Tells, side_by_side};
+ghost use Rattle.patterns.specs.Answers.{Tells, side_by_side};
+ghost use Rattle.patterns.specs.Files.{PrintsFiles};
 
 mod report;
 mod stop;
@@ -28,54 +28,60 @@ fn main(rt: HostRuntime) -> io::Result<()> {
     rt.stdin().read_to_end(&mut input)?;
     let mut name_parts = vec![in heap; Part::default(); MOST_FILE_PATTERNS]?;
     let mut mask_parts = vec![in heap; Part::default(); MOST_FILE_PATTERNS]?;
-    let output = output(
-        heap,
-        names.as_slice(),
-        masks.as_slice(),
-        input.as_slice(),
-        name_parts.as_mut_slice(),
-        mask_parts.as_mut_slice(),
-    )?;
+    let files = Files {
+        names: names.as_slice(),
+        masks: masks.as_slice(),
+        input: input.as_slice(),
+    };
+    let mut memory = Memory {
+        names: name_parts.as_mut_slice(),
+        masks: mask_parts.as_mut_slice(),
+    };
+    let output = output(heap, files, &mut memory)?;
     rt.stdout().write_all(output.as_slice())
 }
 
-// What is printed for these files and this input, with this memory for the parts of the files.
-fn output(
-    heap: Global,
-    names: &[u8],
-    masks: &[u8],
-    input: &[u8],
-    name_parts: &mut [Part],
-    mask_parts: &mut [Part],
-) -> Result<Vec<u8>, AllocError>
-    ensures { IfOk result (λ v. Prints (room name_parts.old) (room mask_parts.old) names.now masks.now input.now v.items) }
+// The bytes of the two files, and of the texts.
+#[derive(Clone, Copy)]
+pub(crate) struct Files<'a> {
+    names: &'a [u8],
+    masks: &'a [u8],
+    input: &'a [u8],
+}
+
+// What is lent to the program: memory for the parts of each file.
+#[derive(Drop)]
+pub(crate) struct Memory<'a> {
+    names: &'a mut [Part],
+    masks: &'a mut [Part],
+}
+
+// What is printed for these files and this input, with this memory.
+fn output(heap: Global, files: Files<'_>, memory: &mut Memory<'_>) -> Result<Vec<u8>, AllocError>
+    ensures { IfOk result (λ v. PrintsFiles files.entry memory.old v.items) }
 {
-    match answers(heap, names, masks, input, name_parts, mask_parts) {
+    match answers(heap, files, memory) {
         Ok(answers) => Ok(answers),
         Err(stop) => stop.line(heap),
     }
 }
 
-// The answers, if both files are read. A struct of a file and its memory was tried: the check covers no reading into its field.
-fn answers(
-    heap: Global,
-    names: &[u8],
-    masks: &[u8],
-    input: &[u8],
-    name_parts: &mut [Part],
-    mask_parts: &mut [Part],
-) -> Result<Vec<u8>, Stop>
-    ensures { Tells (Prints (room name_parts.old) (room mask_parts.old) names.now masks.now input.now) result }
+// The answers, if both files are read.
+fn answers(heap: Global, files: Files<'_>, memory: &mut Memory<'_>) -> Result<Vec<u8>, Stop>
+    ensures { Tells (PrintsFiles files.entry memory.old) result }
 {
-    let name_count = read_names(names, name_parts)?;
-    let mask_count = read_masks(masks, mask_parts)?;
+    // Two slices from here on: the borrow checker doesn't cover two fields of the memory lent in one call.
+    let name_parts = &mut *memory.names;
+    let mask_parts = &mut *memory.masks;
+    let name_count = read_names(files.names, name_parts)?;
+    let mask_count = read_masks(files.masks, mask_parts)?;
     Ok(side_by_side(
         heap,
-        names,
+        files.names,
         &name_parts[..name_count],
-        masks,
+        files.masks,
         &mask_parts[..mask_count],
-        input,
+        files.input,
     )?)
 }
 
