@@ -1,12 +1,8 @@
 -- One more pattern, one more line.
-use Rattle.std.proofs.Common.{◌≡◌, ℕ, zero, suc, ◌+◌, ◌-◌, ◌<◌, ◌≤◌, Bool, cond, eqb, List, [], ◌∷◌, ◌++◌, length, get_or, take, drop, Some, None, sym, refl, ⊎_elim, zero-add, ap, ◌∙◌, add-one, arith, length-drop}
-use Rattle.std.proofs.lemmas.List.{map-id, append_assoc, take_rest}
-use Rattle.std.specs.List.{flat_map, filter, range_with_len, position, position_or_len}
-use Rattle.std.proofs.lemmas.Bool.{ne_eqb, eqb-true, eqb-false, lt-ltb, cases_lt}
-use Rattle.std.proofs.lemmas.Option.{none-some}
-use Rattle.std.proofs.lemmas.List.Quantifiers.{position-Some}
+use Rattle.std.proofs.Common.{◌≡◌, ℕ, zero, suc, Bool, cond, List, [], ◌∷◌, ◌++◌, sym, refl, zero-add, ap, ◌∙◌, add-one}
+use Rattle.std.proofs.lemmas.List.{map-id, append_assoc}
+use Rattle.std.specs.List.{flat_map, filter, range_with_len}
 use Rattle.std.proofs.lemmas.List.FromFn.{filter_of_map_range_with_len_more}
-use Rattle.std.proofs.lemmas.List.Sums.{fails_before_first}
 use Rattle.lines.specs.Lines.{lines}
 use Rattle.patterns.specs.Report.{passing, numbers_shown, line, report}
 

@@ -2,7 +2,7 @@
 #![tactic(auto)]
 
 ghost use Rattle.std.specs.Prelude.{◌≡◌, IfOk};
-ghost use Rattle.patterns.specs.Answers.{Tells, side_by_side};
+ghost use Rattle.patterns.specs.Answers.{Tells};
 ghost use Rattle.patterns.specs.Files.{PrintsFiles};
 
 mod report;
@@ -57,7 +57,11 @@ pub(crate) struct Memory<'a> {
 }
 
 // What is printed for these files and this input, with this memory.
-fn output(heap: Global, files: Files<'_>, memory: &mut Memory<'_>) -> Result<Vec<u8>, AllocError>
+fn output<'a>(
+    heap: Global,
+    files: Files<'_>,
+    memory: &mut Memory<'_>,
+) -> Result<Vec<u8>, AllocError>
     ensures { IfOk result (λ v. PrintsFiles files.entry memory.old v.items) }
 {
     match answers(heap, files, memory) {
@@ -66,8 +70,8 @@ fn output(heap: Global, files: Files<'_>, memory: &mut Memory<'_>) -> Result<Vec
     }
 }
 
-// The answers, if both files are read.
-fn answers(heap: Global, files: Files<'_>, memory: &mut Memory<'_>) -> Result<Vec<u8>, Stop>
+// The answers of names before masks, if both files are read.
+fn answers<'a>(heap: Global, files: Files<'a>, memory: &'a mut Memory<'_>) -> Result<Vec<u8>, Stop>
     ensures { Tells (PrintsFiles files.entry memory.old) result }
 {
     // Two slices from here on: the borrow checker doesn't cover two fields of the memory lent in one call.
@@ -75,28 +79,7 @@ fn answers(heap: Global, files: Files<'_>, memory: &mut Memory<'_>) -> Result<Ve
     let mask_parts = &mut *memory.masks;
     let name_count = read_names(files.names, name_parts)?;
     let mask_count = read_masks(files.masks, mask_parts)?;
-    Ok(side_by_side(
-        heap,
-        files.names,
-        &name_parts[..name_count],
-        files.masks,
-        &mask_parts[..mask_count],
-        files.input,
-    )?)
-}
-
-// The answers of names before masks. The two views are made here, where all they look at has one lifetime: the check covers no other.
-fn side_by_side<'a>(
-    heap: Global,
-    names: &'a [u8],
-    name_parts: &'a [Part],
-    masks: &'a [u8],
-    mask_parts: &'a [Part],
-    input: &[u8],
-) -> Result<Vec<u8>, AllocError>
-    ensures { IfOk result (λ v. v.items ≡ side_by_side names.now name_parts.now masks.now mask_parts.now input.now) }
-{
-    let first = Names::new(names, name_parts);
-    let second = Masks::new(masks, mask_parts);
-    report(heap, &Pair { first, second }, input)
+    let first = Names::new(files.names, &name_parts[..name_count]);
+    let second = Masks::new(files.masks, &mask_parts[..mask_count]);
+    Ok(report(heap, &Pair { first, second }, files.input)?)
 }
