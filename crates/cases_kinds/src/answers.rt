@@ -62,7 +62,7 @@ pub(crate) fn reading<K: Number>(heap: Global, token: &[u8]) -> Result<String, L
             Ok(format!(in heap; "ok {written} {sign}")?)
         }
         Err(cause) => {
-            let number = cause.number();
+            let number = u8::from(cause);
             Ok(format!(in heap; "outside {number}")?)
         }
     }
