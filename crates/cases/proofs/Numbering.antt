@@ -47,12 +47,12 @@ pub text_of :
     {E : Type 0} (P : Type 0) (Q : E → Type 0) (w : List ℕ) (r : Result (Bor (List ℕ)) E) (t : Bor (List ℕ)) → result_ok r ≡ Some t
     → MatchResult r (λ s. (s.now ≡ w) × P) (λ e. (IsUtf8 w → ⊥) × Q e) → t.now ≡ w
 text_of P Q w (Ok s) t e h = (let same : s ≡ t = cc in ap (λ (x : Bor (List ℕ)). x.now) (sym same) ∙ h.0)
-text_of P Q w (Err x) t e h = absurd (let z : ◌≡◌ {A = ℕ} 0 1 = cc in omega arith)
+text_of P Q w (Err x) t e h = cc
 
 pub none_of :
     {E : Type 0} (P : Type 0) (Q : E → Type 0) (w : List ℕ) (r : Result (Bor (List ℕ)) E) → result_ok r ≡ None
     → MatchResult r (λ s. (s.now ≡ w) × P) (λ e. (IsUtf8 w → ⊥) × Q e) → number_of w ≡ None
-none_of P Q w (Ok s) e h = absurd (let z : ◌≡◌ {A = ℕ} 0 1 = cc in omega arith)
+none_of P Q w (Ok s) e h = cc
 none_of P Q w (Err x) e h = no_text w h.0
 
 -- a word with a sign is no number

@@ -18,18 +18,18 @@ pub limited_within : (bs : List ℕ) → length bs ≤ longest → limited (Some
 limited_within bs h = rw (le-leb (length bs) longest h)
 
 limited_some : (m : Option (List ℕ)) (x : List ℕ) → limited m ≡ Some x → (m ≡ Some x) × (length x ≤ longest)
-limited_some None x e = absurd (let z : ◌≡◌ {A = ℕ} 0 1 = cc in omega arith)
+limited_some None x e = cc
 limited_some (Some bs) x e =
     elim (cases_Bool (leb (length bs) longest)) [
       | inl t ↦ let same : bs ≡ x = (let w = rw t at e in cc) in
           (ap Some same, rw (← same) (leb-true (length bs) longest t))
-      | inr f ↦ absurd (let w = rw f at e in let z : ◌≡◌ {A = ℕ} 0 1 = cc in omega arith)
+      | inr f ↦ (let w = rw f at e in cc)
     ]
 
 limited_none : (bs : List ℕ) → limited (Some bs) ≡ None → longest < length bs
 limited_none bs e =
     elim (cases_Bool (leb (length bs) longest)) [
-      | inl t ↦ absurd (let w = rw t at e in let z : ◌≡◌ {A = ℕ} 0 1 = cc in omega arith)
+      | inl t ↦ (let w = rw t at e in cc)
       | inr f ↦ leb-false (length bs) longest f
     ]
 
@@ -63,7 +63,7 @@ times_over old out bs i n len is over turn inv =
 joins :
     (done grown : List ℕ) (m x : Option (List ℕ)) → limited (both (Some done) m) ≡ Some grown
     → (length grown ≤ longest) × (both (Some grown) x ≡ both (Some done) (both m x))
-joins done grown None x e = absurd (let z : ◌≡◌ {A = ℕ} 0 1 = cc in omega arith)
+joins done grown None x e = cc
 joins done grown (Some b) x e =
     let some = limited_some (Some (done ++ b)) grown e in
     let same : done ++ b ≡ grown = (let w = some.0 in cc) in

@@ -17,7 +17,7 @@ neither words after r decides is other none (Err x) h = none x h
 pub stated :
     (words after left : List (List ℕ)) (r : Option (Result ℕ Refused)) (x : Result ℕ Refused) → after ≡ drop 1 words → left ≡ drop 1 after
     → MatchOption r ((y : Result ℕ Refused) → Expects left y → ⊥) (Expects left) → r ≡ Some x → Expects (drop 2 words) x
-stated words after left None x one two h is = absurd (let z : ◌≡◌ {A = ℕ} 0 1 = cc in omega arith)
+stated words after left None x one two h is = cc
 stated words after left (Some y) x one two h is =
     let same : y ≡ x = cc in
     subst (λ ws. Expects ws x) (two ∙ ap (drop 1) one ∙ drop-drop 1 1 words) (rw same at h)
