@@ -18,8 +18,6 @@ const ONE_TO_FOUR: Row = Row::Members(Range {
     upper: Some(4),
 });
 
-static NO_NUMBERS: [Whole; 0] = [];
-
 // The refusal of a book, with this number.
 fn refused(number: u8) -> Refusal {
     Refusal {
@@ -31,8 +29,8 @@ fn refused(number: u8) -> Refusal {
 
 // Seals a draft and clears what is sealed.
 fn clear_as_sealed(draft: Draft<'_>, out: &mut ClearedMemory<'_>) -> Result<usize, ClearFault> {
-    let limits = Limits {
-        numbers: &NO_NUMBERS,
+    let limits = Limits::<Whole> {
+        numbers: &[],
         patterns: 0,
     };
     clear_sealed(&Book::seal(draft, limits), out)
@@ -54,7 +52,8 @@ where
     };
     let refusal = clear(more, &mut out).map_err(Refusal::from);
     assert_eq!(rt; refusal, Err(refused(35)), "2,053 rows");
-    assert_eq!(rt; out.rows[0], UNTOUCHED, "nothing is changed");
+    let first = out.rows.first().copied();
+    assert_eq!(rt; first, Some(UNTOUCHED), "nothing is changed");
     assert_eq!(rt; &*out.definitions, [7, 7].as_slice());
     let most = Draft {
         rows: &[ONE_TO_FOUR; 408],
@@ -79,13 +78,15 @@ where
     };
     let refusal = clear(more, &mut out).map_err(Refusal::from);
     assert_eq!(rt; refusal, Err(refused(36)));
-    assert_eq!(rt; out.rows[0], UNTOUCHED, "nothing is changed");
+    let first = out.rows.first().copied();
+    assert_eq!(rt; first, Some(UNTOUCHED), "nothing is changed");
     let most = Draft {
         rows: &[Row::True],
         definitions: &[0; 64],
     };
     assert_eq!(rt; clear(most, &mut out), Ok(8));
-    assert_eq!(rt; &out.definitions[63..65], [6, 7].as_slice());
+    assert_eq!(rt; out.definitions.get(63).copied(), Some(6));
+    assert_eq!(rt; out.definitions.get(64).copied(), Some(7));
 }
 
 // Where neither fits, it is the rows that are told of.

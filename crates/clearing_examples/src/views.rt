@@ -9,22 +9,19 @@ use clearing::memory::ClearedMemory;
 use kinds::whole::Whole;
 use rules::row::Row;
 
-// It has no numbers, so that their kind is all one.
-static NO_NUMBERS: [Whole; 0] = [];
-
 // A list of things that this very rule does not accept.
 static ROWS: [Row; 3] = [Row::Variable(0), Row::Not(0), Row::EveryElement(1)];
 
 static BODIES: [u16; 1] = [2];
 
-// The book, sealed for three patterns.
+// The book, sealed for three patterns. It has no numbers, so that their kind is all one.
 fn sealed() -> Book<'static> {
     let draft = Draft {
         rows: &ROWS,
         definitions: &BODIES,
     };
-    let limits = Limits {
-        numbers: &NO_NUMBERS,
+    let limits = Limits::<Whole> {
+        numbers: &[],
         patterns: 3,
     };
     Book::seal(draft, limits)
@@ -36,7 +33,7 @@ fn what_was_cleared_is_viewed(rt: HostRuntime) {
         rows: &mut [Row::Not(9); 20],
         definitions: &mut [7; 5],
     };
-    let cleared = clear_into(&sealed(), &NO_NUMBERS, memory);
+    let cleared = clear_into::<Whole>(&sealed(), &[], memory);
     assert_eq!(rt; cleared.rows().len(), 13);
     assert_eq!(rt; cleared.rows()[12], Row::And(4, 11));
     assert_eq!(rt; cleared.definitions(), [10, 12].as_slice());
