@@ -38,7 +38,7 @@ pub(crate) fn test_end<K: Number>(
     requires { (size ≤ 65535) × (13 * length draft.rows.now + 5 * length draft.definitions.now ≤ size) }
     ensures { TestsEnd (limits_in K.Number.kind limits.entry) size draft.entry.rows.now draft.entry.definitions.now result }
 {
-    if draft.definitions.len() == 0 {
+    if draft.definitions.is_empty() {
         return Err(BookFault::NoDefinition(size));
     }
     let place = size - ROW_FIELD * draft.rows.len() - DEFINITION_FIELD * draft.definitions.len();

@@ -1,4 +1,5 @@
 // Files of small books, read and refused.
+use crate::refusals::refusal;
 use book_files::memory::BookMemory;
 use book_files::reading::{BookCounts, read_book};
 use faults::{Layer, Refusal};
@@ -17,15 +18,6 @@ fn refused(file: &[u8]) -> Option<Refusal> {
         definitions: &mut [9; 2],
     };
     read_book(file, 1, &mut memory).err().map(Refusal::from)
-}
-
-// A refusal that is wanted.
-fn refusal(number: u8, place: usize, layer: Layer) -> Option<Refusal> {
-    Some(Refusal {
-        number,
-        place,
-        layer,
-    })
 }
 
 // A stop of at least 5 minutes: the number 5, a row that is `between` from it on, a definition.

@@ -1,4 +1,5 @@
 // Books that stand in memory, tested by number and sealed.
+use crate::refusals::refusal;
 use books::book::Book;
 use books::draft::Draft;
 use books::limits::Limits;
@@ -21,15 +22,6 @@ fn refused(rows: &[Row], definitions: &[u16]) -> Option<Refusal> {
     test_book(draft, nothing()).err().map(Refusal::from)
 }
 
-// A refusal of a book that is wanted.
-fn refusal(number: u8, place: usize) -> Option<Refusal> {
-    Some(Refusal {
-        number,
-        place,
-        layer: Layer::Book,
-    })
-}
-
 // A train of a train: it may be made of trains without end, since the rule looks at parts.
 #[test]
 fn a_rule_may_name_itself_over_parts(rt: HostRuntime) {
@@ -48,7 +40,7 @@ fn a_rule_may_name_itself_over_parts(rt: HostRuntime) {
 #[test]
 fn a_rule_may_not_need_itself(rt: HostRuntime) {
     let rows = [Row::True, Row::Variable(0), Row::Not(1)];
-    assert_eq!(rt; refused(&rows, &[2]), refusal(27, 1));
+    assert_eq!(rt; refused(&rows, &[2]), refusal(27, 1, Layer::Book));
     let book = Book::seal(
         Draft {
             rows: &rows,
@@ -62,11 +54,14 @@ fn a_rule_may_not_need_itself(rt: HostRuntime) {
 
 #[test]
 fn rows_and_definitions_are_placed_by_number(rt: HostRuntime) {
-    assert_eq!(rt; refused(&[Row::True, Row::Not(1)], &[1]), refusal(23, 1));
-    assert_eq!(rt; refused(&[Row::True], &[0, 1]), refusal(26, 1));
+    assert_eq!(rt;
+        refused(&[Row::True, Row::Not(1)], &[1]),
+        refusal(23, 1, Layer::Book)
+    );
+    assert_eq!(rt; refused(&[Row::True], &[0, 1]), refusal(26, 1, Layer::Book));
     assert_eq!(rt;
         refused(&[Row::True, Row::Variable(2)], &[0]),
-        refusal(26, 1)
+        refusal(26, 1, Layer::Book)
     );
-    assert_eq!(rt; refused(&[Row::True], &[]), refusal(28, 0));
+    assert_eq!(rt; refused(&[Row::True], &[]), refusal(28, 0, Layer::Book));
 }
