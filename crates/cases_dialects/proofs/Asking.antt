@@ -8,13 +8,17 @@ use Rattle.dialects.specs.declared.fault.PatternFault.{PatternFault}
 use Rattle.cases_dialects.specs.Expected.{came_of, outcome_text}
 use Rattle.cases_dialects.specs.Lines.{PartsOf, RefusesOne, answered, Told, refuses, answers}
 
+-- the bits of views that look at the files and the parts that were read
 pub told_answers :
-    {E : Type 0} (r : Result (String Global) E) (name_room mask_room : ℕ) (names masks text : List ℕ) (name_parts mask_parts : List Part)
+    {E : Type 0} (r : Result (String Global) E) (name_room mask_room : ℕ) (names masks text seen_names seen_masks : List ℕ)
+    (name_parts mask_parts seen_name_parts seen_mask_parts : List Part)
     → PartsOf 4 name_room names name_parts → PartsOf 5 mask_room masks mask_parts
-    → IfOk r (λ s. string_bytes s ≡ answered names name_parts masks mask_parts text)
+    → seen_names ≡ names → seen_name_parts ≡ name_parts → seen_masks ≡ masks → seen_mask_parts ≡ mask_parts
+    → IfOk r (λ s. string_bytes s ≡ answered seen_names seen_name_parts seen_masks seen_mask_parts text)
     → IfOk r (λ s. Told name_room mask_room names masks text (string_bytes s))
-told_answers (Ok s) name_room mask_room names masks text name_parts mask_parts one two is = answers name_parts mask_parts one two is
-told_answers (Err e) name_room mask_room names masks text name_parts mask_parts one two is = tt
+told_answers (Ok s) name_room mask_room names masks text seen_names seen_masks name_parts mask_parts seen_name_parts seen_mask_parts one two a b c d is =
+    answers name_parts mask_parts one two (rw (← a, ← b, ← c, ← d) is)
+told_answers (Err e) name_room mask_room names masks text seen_names seen_masks name_parts mask_parts seen_name_parts seen_mask_parts one two a b c d is = tt
 
 pub told_refusal :
     {E : Type 0} (r : Result (String Global) E) (name_room mask_room : ℕ) (names masks text : List ℕ) (e : PatternFault) (came : Result ℕ Refused)

@@ -2,7 +2,7 @@
 ghost use Rattle.std.specs.Prelude.{◌≡◌, length, IfOk, string_bytes, vec_len};
 ghost use Rattle.cases.specs.Lefts.{parts_left};
 ghost use Rattle.dialects.specs.Files.{Outcome, room};
-ghost use Rattle.cases_dialects.specs.Lines.{sorts, sort_word, tag, Compares, ReadsFile, ReadsBoth, answered, Told, Asks, Comes};
+ghost use Rattle.cases_dialects.specs.Lines.{sorts, sort_word, tag, Compares, ReadsFile, ReadsBoth, Told, Asks, Comes};
 
 use crate::bits::answer_bits;
 use crate::outcome::{expected, of_reading, outcome_text};
@@ -95,24 +95,8 @@ fn read_both(
     Ok((first, second))
 }
 
-// The answers of names before masks about a string, by their files and the parts that were read. A function of its own,
-// since the check covers a list of patterns only where its file and its parts have one lifetime.
-fn answers<'a>(
-    heap: Global,
-    names: &'a [u8],
-    name_parts: &'a [Part],
-    masks: &'a [u8],
-    mask_parts: &'a [Part],
-    text: &[u8],
-) -> Result<String, AllocError>
-    ensures { IfOk result (λ s. string_bytes s ≡ answered names.now name_parts.now masks.now mask_parts.now text.now) }
-{
-    let first = Names::new(names, name_parts);
-    let second = Masks::new(masks, mask_parts);
-    answer_bits(heap, &Pair { first, second }, text)
-}
-
-// The same in lent memory, with the files read first; a refusal where one is refused.
+// The answers of names before masks about a string, with the files read into lent memory first; a refusal where one is refused.
+// Each memory by itself, as in `read_both`: the borrow checker doesn't cover two fields of a struct lent in one call.
 fn ask_in<'a>(
     heap: Global,
     names: &'a [u8],
@@ -124,14 +108,11 @@ fn ask_in<'a>(
     ensures { IfOk result (λ s. Told (room name_parts.old) (room mask_parts.old) names.now masks.now text.now (string_bytes s)) }
 {
     match read_both(names, masks, name_parts, mask_parts) {
-        Ok((first, second)) => answers(
-            heap,
-            names,
-            &name_parts[..first],
-            masks,
-            &mask_parts[..second],
-            text,
-        ),
+        Ok((first, second)) => {
+            let first = Names::new(names, &name_parts[..first]);
+            let second = Masks::new(masks, &mask_parts[..second]);
+            answer_bits(heap, &Pair { first, second }, text)
+        }
         Err(fault) => outcome_text(heap, of_reading(Err(fault))),
     }
 }
