@@ -1,5 +1,5 @@
 -- Lent memory that a list fills from its front.
-use Rattle.std.proofs.Common.{◌≡◌, ℕ, ◌+◌, ◌<◌, min, Bool, false, leb, List, [], ◌∷◌, ◌++◌, length, drop, refl, sym, ap, ◌∙◌, subst}
+use Rattle.std.proofs.Common.{◌≡◌, ℕ, ◌<◌, min, Bool, false, leb, List, [], ◌∷◌, ◌++◌, length, drop, refl, sym, ap, ◌∙◌}
 use Rattle.std.proofs.lemmas.List.{drop-drop, length_push, take-append-drop}
 use Rattle.std.proofs.lemmas.Bool.{leb-false}
 use Rattle.lists.specs.declared.lent.LentList.{LentList}
@@ -16,7 +16,7 @@ pub record Stands {A : Type 0} (before : List A) (most : ℕ) (first list : Lent
 abbrev pub full : {A : Type 0} → LentList A → Bool
 full list = leb (room list) (length (values_of list))
 
-module _ {A : Type 0} (before : List A) (most : ℕ) where
+module _ {A : Type 0} {before : List A} {most : ℕ} where
   pub none_yet : (first : LentList A) → values_of first ≡ [] → memory_of first ≡ before → first.most ≡ most → Stands before most first first []
   none_yet first none same is = record {
     values_are = none;
@@ -25,7 +25,7 @@ module _ {A : Type 0} (before : List A) (most : ℕ) where
     lent = record { memory = refl; length = refl; most = refl };
   }
 
-  module _ (first list : LentList A) (values : List A) (stands : Stands before most first list values) where
+  module _ {first list : LentList A} {values : List A} (stands : Stands before most first list values) where
     -- one more value behind the others
     pub one_more : (x : A) (after : LentList A) → values_of after ≡ values_of list ++ x ∷ [] → spare_of after ≡ drop 1 (spare_of list) → Lent list after →
         Stands before most first after (values ++ x ∷ [])
