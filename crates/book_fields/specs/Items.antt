@@ -1,13 +1,15 @@
 -- What stands in a field, or what refuses it.
-use Rattle.std.specs.Prelude.{ℕ, ◌+◌, ◌*◌, Bool, cond, List, length, Some, None, Ok, Err, Option, Result, ◌==◌, nat_lt, slice_index}
+use Rattle.std.specs.Prelude.{◌≡◌, ℕ, ◌+◌, ◌*◌, Bool, cond, List, [], ◌∷◌, ◌++◌, length, drop, Some, None, Ok, Err, Option, Result, ◌==◌, nat_lt, slice_index}
 use Rattle.std.specs.Result.{result_and}
 use Rattle.numbers.specs.Kinds.{Kind}
 use Rattle.kinds.specs.Causes.{outcome}
 use Rattle.kinds.specs.declared.number.Cause.{Cause}
+use Rattle.lists.specs.Lists.{memory_of, values_of, spare_of}
+use Rattle.lists.specs.declared.lent.LentList.{LentList}
 use Rattle.rules.specs.Book.{Limits}
 use Rattle.rules.specs.declared.row.Row.{Row}
 use Rattle.rows.specs.Rows.{row_of}
-use Rattle.books.specs.Tests.{row_test}
+use Rattle.books.specs.Tests.{Tested, row_test}
 use Rattle.books.specs.declared.fault.BookFault.{BookFault}
 use Rattle.books.specs.declared.fault.BookFault.TheVariants.{TooMany, NotAllowed, BadNumber, Missing, WrongLength}
 
@@ -40,3 +42,8 @@ body_row place rows bytes = cond (length bytes == 2) (cond (nat_lt (named bytes)
 
 abbrev pub definition_from : Bool → (place rows : ℕ) → List ℕ → Result ℕ BookFault
 definition_from full place rows bytes = if_room full place (body_row place rows bytes)
+
+-- the item stands behind the others, and memory past it is as it was; or it is refused, and nothing changed
+abbrev pub Puts : {A : Type 0} → Result A BookFault → (before after : LentList A) → Tested → Type 0
+Puts {A} item before after (Ok u) = (x : A) × (item ≡ Ok x) × (values_of after ≡ values_of before ++ x ∷ []) × (spare_of after ≡ drop 1 (spare_of before))
+Puts item before after (Err e) = (item ≡ Err e) × (after.count ≡ before.count) × (memory_of after ≡ memory_of before)

@@ -1,5 +1,5 @@
 -- What the steps of the reading call promise each other.
-use Rattle.std.specs.Prelude.{◌≡◌, ℕ, ◌+◌, ◌-◌, ◌*◌, not, ◌⊎◌, List, length, Ok, Err, Result, ◌==◌, slice_set}
+use Rattle.std.specs.Prelude.{◌≡◌, ℕ, ◌+◌, ◌-◌, ◌*◌, not, ◌⊎◌, List, length, Ok, Err, Result, ◌==◌}
 use Rattle.std.specs.Result.{result_and}
 use Rattle.numbers.specs.Kinds.{Kind}
 use Rattle.rules.specs.declared.row.Row.{Row}
@@ -12,11 +12,6 @@ use Rattle.books.specs.declared.fault.BookFault.TheVariants.{NoDefinition}
 use Rattle.book_files.specs.declared.reading.BookCounts.{BookCounts}
 use Rattle.book_files.specs.Drafts.{Draft, Memory, room_of, file, counts_of}
 use Rattle.book_files.specs.Files.{Fits, Filled, ReadsTo, ComesTo}
-
--- the item stands behind the others, or it is refused
-abbrev pub Adds : {A : Type 0} → Result A BookFault → ℕ → (before after : List A) → Result ℕ BookFault → Type 0
-Adds {A} item count before after (Ok n) = (x : A) × (item ≡ Ok x) × (n ≡ count + 1) × (after ≡ slice_set before count x)
-Adds item count before after (Err e) = (item ≡ Err e) × (after ≡ before)
 
 -- all fields of the file are read, and it is not yet tested as a whole; or one of them is refused
 pub record AllRead {K : Type 0} (kind : Kind K) (patterns : ℕ) (bytes : List ℕ) (before after : Memory K) (counts : BookCounts) : Type 0 where
