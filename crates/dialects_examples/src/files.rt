@@ -1,6 +1,7 @@
 // Files that are read, and files that are refused.
+use dialects::fault::PatternFault;
 use dialects::reading::{read_masks, read_names};
-use faults::Refusal;
+use faults::{Layer, Refusal};
 use fields::part::Part;
 
 const UNTOUCHED: Part = Part {
@@ -8,12 +9,19 @@ const UNTOUCHED: Part = Part {
     length: 9,
 };
 
-// The number, place and layer of a refused names file that is read into memory for two patterns.
-fn refused_names(file: &[u8]) -> Option<(u8, usize, u8)> {
+// How a names file is refused that is read into memory for two patterns.
+fn refused_names(file: &[u8]) -> Option<Refusal> {
     let mut parts = [UNTOUCHED; 2];
-    let fault = read_names(file, &mut parts).err()?;
-    let refusal = Refusal::from(fault);
-    Some((refusal.number, refusal.place, u8::from(refusal.layer)))
+    read_names(file, &mut parts).err().map(Refusal::from)
+}
+
+// A refusal by this number, at this place.
+fn refusal(number: u8, place: usize) -> Option<Refusal> {
+    Some(Refusal {
+        number,
+        place,
+        layer: Layer::Dialect,
+    })
 }
 
 #[test]
@@ -72,27 +80,27 @@ fn a_refused_file_leaves_nothing(rt: HostRuntime) {
 fn refusals_come_in_order(rt: HostRuntime) {
     assert_eq!(rt;
         refused_names(b"\x05\x00"),
-        Some((22, 0, 4)),
+        refusal(22, 0),
         "too short for a head, whatever the tag"
     );
     assert_eq!(rt;
         refused_names(b"\x04\x00\x00\x05\x00\x09Ulm"),
-        Some((21, 3, 4)),
+        refusal(21, 3),
         "the tag before the length"
     );
     assert_eq!(rt;
         refused_names(b"\x04\x00\x04Ulm"),
-        Some((22, 0, 4)),
+        refusal(22, 0),
         "a body cut short"
     );
     assert_eq!(rt;
         refused_names(b"\x04\x00\x00\x04\x00\x00\x04\x00\x00"),
-        Some((34, 6, 4)),
+        refusal(34, 6),
         "room for two"
     );
     assert_eq!(rt;
         refused_names(b"\x04\x00\x00\x04\x00\x00\x04\x00\x01"),
-        Some((22, 6, 4)),
+        refusal(22, 6),
         "the length before the room"
     );
 }
@@ -108,5 +116,17 @@ fn a_pattern_has_at_most_255_bytes(rt: HostRuntime) {
     longer[0] = 4;
     longer[1] = 1;
     longer[2] = 0;
-    assert_eq!(rt; refused_names(&longer), Some((22, 0, 4)));
+    assert_eq!(rt; refused_names(&longer), refusal(22, 0));
+}
+
+#[test]
+fn refusals_are_of_the_fourth_layer(rt: HostRuntime) {
+    assert_eq!(rt; u8::from(Layer::Dialect), 4);
+}
+
+#[test]
+fn a_refusal_has_a_line(rt: HostRuntime) {
+    let refusal = Refusal::from(PatternFault::TooMany(6));
+    let line = refusal.line(rt.alloc()).expect(&rt, "there is memory");
+    assert_eq!(rt; line.as_slice() == b"refused 34 at 6\n".as_slice(), true);
 }
