@@ -156,7 +156,7 @@ impl Sort for PatternSort {
 
     ghost comes = { Comes };
 
-    fn all() -> &'static [PatternSort] {
+    fn all<'a>() -> &'a [PatternSort] {
         &[
             PatternSort::File(FileSort::Names),
             PatternSort::File(FileSort::Masks),

@@ -66,7 +66,7 @@ impl Sort for KindSort {
 
     ghost comes = { Comes };
 
-    fn all() -> &'static [KindSort] {
+    fn all<'a>() -> &'a [KindSort] {
         &[KindSort::Number, KindSort::Compare]
     }
 

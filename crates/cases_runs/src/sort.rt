@@ -23,7 +23,7 @@ impl Case {
 }
 
 // A sort of case, by the first word of its lines.
-pub trait Sort: Copy + 'static {
+pub trait Sort: Sized + Copy {
     // the sorts of the program, in the order of its report
     ghost sorts: { List Self };
 
@@ -33,7 +33,9 @@ pub trait Sort: Copy + 'static {
     ghost comes: { Self → List (List ℕ) → List ℕ → List ℕ → Type 0 };
 
     // All the sorts.
-    fn all() -> &'static [Self]
+    fn all<'a>() -> &'a [Self]
+    where
+        Self: 'a,
         ensures { (result.now ≡ sorts) × (length result.now < 256) };
 
     // The first word of its lines.
