@@ -75,11 +75,13 @@ fn is_wrong(tag: Tag, length: usize) -> bool
     }
 }
 
-// The field that bytes begin with, which stands at this place, after a field whose tag has the number `last`.
+// The field that bytes begin with, which stands at this place, after a field whose tag has the number `last`:
+// a byte, since a `Tag` would ask more of whoever calls.
 pub fn next_field(bytes: &[u8], last: u8, place: usize) -> Result<BookField<'_>, BookFault>
     ensures takes { TakesField last place bytes.now result }
     ensures cuts { Cuts bytes.now result }
 {
+    // A match and no `map_err`: the tag of a body that is cut short may be refused first.
     let field = match split_field(bytes) {
         Ok(field) => field,
         Err(CutShort::Head) => return Err(BookFault::WrongLength(place)),

@@ -11,7 +11,7 @@ use crate::limits::MOST_ROWS;
 use rules::row::Row;
 
 // How far a search for what a row needs has come: the rows that are marked,
-// and those of them that are not looked at yet, which wait on a stack of this height.
+// and those of them that are not looked at yet, which wait on a stack of this height. The tables are fixed: there is no heap here.
 #[derive(Drop)]
 struct Search {
     marks: [bool; MOST_ROWS],

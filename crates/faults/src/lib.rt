@@ -23,6 +23,7 @@ pub enum Layer {
 }
 
 // What a fault comes to for whoever is refused: the number says why, the place says where.
+// The kinds of refusals are the enums of faults, which turn into this; the number is what is told of them.
 #[derive(Clone, Copy, PartialEq, Eq, Debug)]
 pub struct Refusal {
     pub number: u8,

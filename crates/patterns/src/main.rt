@@ -64,10 +64,7 @@ fn output<'a>(
 ) -> Result<Vec<u8>, AllocError>
     ensures { IfOk result (λ v. PrintsFiles files.entry memory.old v.items) }
 {
-    match answers(heap, files, memory) {
-        Ok(answers) => Ok(answers),
-        Err(stop) => stop.line(heap),
-    }
+    answers(heap, files, memory).or_else(|stop| stop.line(heap))
 }
 
 // The answers of names before masks, if both files are read.

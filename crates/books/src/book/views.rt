@@ -39,6 +39,7 @@ impl<'a> Book<'a> {
         ensures nothing { (Sealed (limits_in K.Number.kind limits.entry) (drafted draft.entry) → ⊥) → Nothing result }
         ensures sealed { Sealed (counts result.patterns result.numbers) (drafted result.draft) }
     {
+        // Not `is_err`: the case says to the proof what the test found.
         if let Err(_) = test_book(draft, limits) {
             return Book::accepting_nothing();
         }
