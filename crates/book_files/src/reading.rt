@@ -16,7 +16,7 @@ use kinds::number::Number;
 use lists::filling::fill_with;
 use rules::row::Row;
 
-// How many numbers, rows and definitions a book has.
+// How many numbers, rows and definitions a book has. Counts and no slices: of memory that a result borrows nothing more could be promised.
 #[derive(Clone, Copy, PartialEq, Eq, Debug)]
 pub struct BookCounts {
     pub numbers: usize,

@@ -62,7 +62,7 @@ pub(crate) fn ensure(holds: bool, fault: BookFault) -> Result<(), BookFault>
     holds.then_some(()).ok_or(fault)
 }
 
-// Tests row number `at`, which stands at this place.
+// Tests row number `at`, which stands at this place. Row and number are no struct: who tests rows one after another has them apart.
 pub fn test_row<K: Number>(
     row: Row,
     at: usize,

@@ -57,7 +57,7 @@ fn case_of(
 }
 
 impl FileSort {
-    // Reads a file of patterns.
+    // Reads a file of patterns. A match, since the two readings are instances and no values that a sort could hold.
     fn read(self, file: &[u8], parts: &mut [Part]) -> Result<usize, PatternFault>
         ensures { Outcome (tag self) (room parts.old) file.now result }
     {

@@ -13,7 +13,7 @@ use std::str::from_utf8;
 // More bytes than the longest token of any kind has.
 const ROOM: usize = 32;
 
-// `before`, `level` or `after`.
+// `before`, `level` or `after`. The words of a line are functions: `Ordering` is the library's, and the others have no type of their own.
 fn side(order: Ordering) -> &'static str
     ensures { result.now ≡ side_word order }
 {

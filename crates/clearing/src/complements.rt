@@ -146,6 +146,7 @@ impl FreeRow {
     }
 
     // A row on numbers, and the numbers that its bounds leave out, by the turned row.
+    // Beside the one on counts, since there the sides are asked by the row itself and here by another.
     pub(crate) fn around_bounds<F: FnOnce(Bounds) -> Row, G: Fn(Bounds) -> Row>(
         self,
         row: F,

@@ -26,7 +26,7 @@ pub(crate) fn write_rows(rows: &[Row], d: u16, out: &mut [Row], places: &mut [Pl
 {
     put(out, 0, &FIXED);
     let mut count = FIXED.len();
-    // by index, as each row looks up the places before it
+    // by index, as each row looks up the places before it; and with a count, as a row adds several at once
     for (r, row) in rows.iter().enumerate() {
         let free = FreeRow {
             number: count as u16,

@@ -66,7 +66,7 @@ fn read_list<S: Syntax>(bytes: &[u8], parts: &mut [Part]) -> Result<usize, Patte
     read
 }
 
-// Reads a names file.
+// Reads a names file. This and the next are instances with a name of their own, whose promise names a file's tag and no syntax.
 pub fn read_names(bytes: &[u8], parts: &mut [Part]) -> Result<usize, PatternFault>
     ensures outcome { Outcome 4 (room parts.old) bytes.now result }
     ensures only { Only 4 (room parts.old) bytes.now result }

@@ -2,7 +2,7 @@
 ghost use Rattle.std.specs.Prelude.{◌≡◌};
 ghost use Rattle.fields.specs.Parts.{part_bytes};
 
-// Where some bytes stand among others.
+// Where some bytes stand among others. No slice: whoever lends memory for parts doesn't lend the bytes with it.
 #[derive(Clone, Copy, PartialEq, Eq, Debug, Default)]
 pub struct Part {
     pub start: u16,

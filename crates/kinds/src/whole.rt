@@ -16,6 +16,7 @@ use std::cmp::Ordering;
 // the greatest magnitude
 const GREATEST: u64 = 1_000_000_000_000_000;
 
+// What this kind and the decimals have alike are single lines of the trait; value, token and writing differ.
 #[derive(Clone, Copy)]
 pub struct Whole {
     value: i64,
