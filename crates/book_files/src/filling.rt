@@ -1,5 +1,4 @@
 // Fills in the numbers, rows and definitions of a book's file, field by field.
-ghost use Rattle.std.specs.Prelude.{◌≡◌};
 ghost use Rattle.book_files.specs.Drafts.{memory};
 ghost use Rattle.book_files.specs.Filling.{Fills};
 

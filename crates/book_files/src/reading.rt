@@ -1,5 +1,4 @@
 // Reads a book's file, and seals the book.
-ghost use Rattle.std.specs.Prelude.{◌≡◌, length, replicate};
 ghost use Rattle.rules.specs.declared.row.Row.TheVariants.{False};
 ghost use Rattle.book_files.specs.Drafts.{SameLent, memory, held, room_of};
 ghost use Rattle.book_files.specs.Files.{Erased, Reads, Granted};

@@ -1,5 +1,5 @@
 // The lines of a cleared book, one after another on a page.
-ghost use Rattle.std.specs.Prelude.{◌≡◌, ◌++◌, IfOk, OnOk, codes, length};
+ghost use Rattle.std.specs.Prelude.{◌≡◌, ◌++◌, IfOk, OnOk, codes};
 ghost use Rattle.book_lines.specs.Lines.{bounds_text, operand_text, row_line, definition_line, definition_lines, numbered, book_text};
 ghost use Rattle.book_lines.specs.Pages.{Adds};
 ghost use Rattle.books.specs.Drafts.{drafted};

@@ -1,5 +1,5 @@
 // Finds the lowest row that needs itself.
-ghost use Rattle.std.specs.Prelude.{◌≡◌, ◌+◌, ◌<◌, ◌≤◌, true, false, List, length};
+ghost use Rattle.std.specs.Prelude.{◌≡◌, ◌<◌, ◌≤◌, List, length};
 ghost use Rattle.rules.specs.Book.{needs, variables};
 ghost use Rattle.std.specs.List.{AllByRecursion};
 ghost use Rattle.books.specs.Drafts.{drafted};

@@ -1,8 +1,8 @@
 // Tests the parts of a book one by one: its rows, its definitions and its variables.
 ghost use Rattle.std.specs.Prelude.{◌≡◌, length};
 ghost use Rattle.books.specs.Drafts.{limits_in};
-ghost use Rattle.rules.specs.Book.{number_at, operands, variables};
-ghost use Rattle.books.specs.Tests.{is_ended, is_there, row_fits, row_above, row_test, variable_test, definition_test, counted_row, ask, StopsAtFirst};
+ghost use Rattle.rules.specs.Book.{number_at};
+ghost use Rattle.books.specs.Tests.{is_there, row_fits, row_above, row_test, variable_test, definition_test, counted_row, ask, StopsAtFirst};
 
 use crate::fault::BookFault;
 use crate::limits::{Limits, MOST_DEFINITIONS, MOST_ROWS};

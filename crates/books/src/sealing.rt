@@ -1,5 +1,5 @@
 // Tests whole books, and seals them.
-ghost use Rattle.std.specs.Prelude.{◌≡◌, ◌<◌};
+ghost use Rattle.std.specs.Prelude.{◌≡◌};
 ghost use Rattle.books.specs.Drafts.{drafted, limits_in};
 ghost use Rattle.books.specs.Sealing.{plain_test, ComesTo, Only, Seals};
 

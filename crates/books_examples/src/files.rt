@@ -122,3 +122,9 @@ fn a_field_is_refused_at_its_offset(rt: HostRuntime) {
         "multiples of zero"
     );
 }
+
+#[test]
+fn layers_are_told_by_number(rt: HostRuntime) {
+    assert_eq!(rt; u8::from(Layer::Kind), 1);
+    assert_eq!(rt; u8::from(Layer::Book), 3);
+}

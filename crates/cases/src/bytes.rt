@@ -1,6 +1,6 @@
 // Bytes written as a word: `-` for none, else pieces joined by `.`. A piece is pairs of lower-case hexadecimal
 // digits, and with `*` and a count after them they are repeated: `5b.31*3` is `[111`.
-ghost use Rattle.std.specs.Prelude.{◌≡◌, ◌<◌, ◌≤◌, ◌++◌, length, IfOk, Some, vec_items, vec_len, string_bytes};
+ghost use Rattle.std.specs.Prelude.{◌≡◌, ◌≤◌, ◌++◌, length, IfOk, Some, vec_items, vec_len, string_bytes};
 ghost use Rattle.cases.specs.Splits.{split};
 ghost use Rattle.cases.specs.Bytes.{longest, both, times, hex_digit, byte_of, hex_bytes, piece_bytes, pieces_bytes, limited, bytes_of, hex_text, shown};
 ghost use Rattle.cases.specs.Read.{Reads, Grows};

@@ -1,5 +1,5 @@
 -- What states no outcome.
-use Rattle.std.proofs.Common.{◌≡◌, ℕ, Bool, false, List, ◌∷◌, drop, Some, None, Ok, Err, codes, Decides, MatchOption, Option, Result, subst, ap, ◌∙◌, arith}
+use Rattle.std.proofs.Common.{◌≡◌, ℕ, Bool, false, List, ◌∷◌, drop, Some, None, Ok, Err, codes, Decides, MatchOption, Option, Result, subst, ap, ◌∙◌}
 use Rattle.std.proofs.lemmas.List.{drop-drop}
 use Rattle.cases.specs.Outcomes.{Spells}
 use Rattle.cases.specs.declared.outcome.Refused.{Refused}

@@ -1,5 +1,5 @@
 // The sorts of case, and what a line of each comes to.
-ghost use Rattle.std.specs.Prelude.{◌≡◌, length, IfOk, string_bytes, vec_len};
+ghost use Rattle.std.specs.Prelude.{◌≡◌, IfOk, string_bytes, vec_len};
 ghost use Rattle.cases.specs.Lefts.{parts_left};
 ghost use Rattle.dialects.specs.Files.{Outcome, room};
 ghost use Rattle.cases_dialects.specs.Lines.{sorts, sort_word, tag, Compares, ReadsFile, ReadsBoth, Told, Asks, Comes};

@@ -1,5 +1,5 @@
 // The sorts of case, and what a line of each comes to.
-ghost use Rattle.std.specs.Prelude.{◌≡◌, IfOk, string_bytes};
+ghost use Rattle.std.specs.Prelude.{IfOk, string_bytes};
 ghost use Rattle.cases.specs.Lefts.{parts_left};
 ghost use Rattle.cases_kinds.specs.Lines.{sorts, sort_word, ReadsToken, ComparesTokens, ComesBy, Comes};
 

@@ -1,5 +1,5 @@
 // A run of all the lines.
-ghost use Rattle.std.specs.Prelude.{◌≡◌, IfSome, IfOk, vec_items, string_bytes, Decides, OnOk};
+ghost use Rattle.std.specs.Prelude.{IfSome, IfOk, vec_items, string_bytes, Decides, OnOk};
 ghost use Rattle.cases_runs.specs.Runs.{Remark, Steps, Reports};
 ghost use Rattle.cases_runs.specs.Places.{Names, RanOf};
 

@@ -1,7 +1,6 @@
 // Writes the cleared book into lent memory.
-ghost use Rattle.std.specs.Prelude.{◌≡◌, ◌+◌, ◌≤◌, map, length};
+ghost use Rattle.std.specs.Prelude.{◌≡◌, ◌+◌, ◌≤◌, length};
 ghost use Rattle.std.proofs.Math.Seq.{paste};
-ghost use Rattle.rules.specs.Clear.{look_up};
 ghost use Rattle.clearing.specs.Writing.{bodies, written_over, Writable, WrittenRows};
 
 use crate::adding::{adds, place_of};

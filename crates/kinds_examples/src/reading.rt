@@ -1,6 +1,6 @@
 // Tokens that a kind reads, compares and writes.
 use kinds::decimal::Decimal;
-use kinds::number::{Cause, Number, read_number};
+use kinds::number::{Number, read_number};
 use kinds::whole::Whole;
 use std::cmp::Ordering;
 use std::test::Fail;

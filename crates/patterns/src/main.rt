@@ -1,7 +1,7 @@
 // Tells for each text of its input which patterns of the files `names` and `masks` match it.
 #![tactic(auto)]
 
-ghost use Rattle.std.specs.Prelude.{◌≡◌, IfOk};
+ghost use Rattle.std.specs.Prelude.{IfOk};
 ghost use Rattle.patterns.specs.Answers.{Tells};
 ghost use Rattle.patterns.specs.Files.{PrintsFiles};
 
