@@ -1,7 +1,9 @@
 -- The lowest row that needs itself is a variable.
-use Rattle.std.proofs.Common.{◌≡◌, ℕ, zero, suc, ◌+◌, ◌<◌, ◌≤◌, min, Bool, true, false, ◌⊎◌, List, [], ◌∷◌, length, get_or, Some, None, Option, sym, refl, ap, ◌∙◌, subst, inl, inr, ⊎_elim, arith}
-use Rattle.std.specs.List.{AllByRecursion}
+use Rattle.std.proofs.Common.{◌≡◌, ℕ, zero, suc, ◌<◌, ◌≤◌, min, Bool, true, false, ◌⊎◌, List, [], ◌∷◌, ◌++◌, length, get_or, Some, None, Option, sym, refl, ap, ◌∙◌, subst, inl, inr, ⊎_elim, arith}
+use Rattle.std.specs.List.{AllByRecursion, range_with_len}
 use Rattle.std.proofs.lemmas.Bool.{eqb-true, eq-eqb, cases_lt, both_ways}
+use Rattle.std.proofs.lemmas.List.{length_push, get_or_push, get_or_append_left}
+use Rattle.std.proofs.lemmas.List.FromFn.{length-range_with_len, get_or-range_with_len}
 use Rattle.rules.specs.declared.row.Row.TheVariants.{False}
 use Rattle.rules.specs.Value.{◌∈◌, first, later}
 use Rattle.rules.specs.Book.{Book, row_at, body_at, Reach, nothing, inner, both, negated, body, reach, named, called, needed, needs, Needs, direct, through, Guarded}
@@ -80,15 +82,15 @@ module _ (book : Book) where
     pub variable_below : (s : ℕ) → s < length book.rows → Needs book s s → VariableCycle s
     variable_below s h n = variable_within (suc s) s (omega arith) h n
 
--- a row is known to need itself, once the variables of d definitions are looked at
-abbrev pub Known : Book → (d s : ℕ) → Type 0
-Known book d s = Needs book s s × ((v : ℕ) × (v < d) × (calls (row_at book s) v ≡ true))
+-- a row is known to need itself, once the variables of these definitions are looked at
+abbrev pub Known : Book → (ds : List ℕ) → (s : ℕ) → Type 0
+Known book ds s = Needs book s s × ((i : ℕ) × (i < length ds) × (calls (row_at book s) (get_or ds i 0) ≡ true))
 
 -- the lowest one that is known
-abbrev pub Best : Book → ℕ → Option ℕ → Type 0
-Best book d lowest = LowestOf (length book.rows) (Known book d) lowest
+abbrev pub Best : Book → List ℕ → Option ℕ → Type 0
+Best book ds lowest = LowestOf (length book.rows) (Known book ds) lowest
 
-pub none_yet : (book : Book) → Best book 0 None
+pub none_yet : (book : Book) → Best book [] None
 none_yet book s h known = absurd (omega (arith, known.1.1))
 
 -- a marked variable of a definition needs itself
@@ -100,22 +102,29 @@ first_cycle book v (Some r) marks marked call = (
   λ s h cycle. call.2 s h ((cycle_marked book s v marks cycle.0 marked).1 cycle.1, cycle.0),
 )
 
-module _ (book : Book) (d : ℕ) where
+module _ (book : Book) (ds : List ℕ) (d : ℕ) where
   -- what is known with one more definition
-  newer : (s : ℕ) → (Known book d s → ⊥) → ((calls (row_at book s) d ≡ true) × Needs book s s → ⊥) → Known book (d + 1) s → ⊥
-  newer s old here known = ⊎_elim
-      (λ (lt : known.1.0 < d). old (known.0, (known.1.0, lt, known.1.2)))
-      (λ (ge : d ≤ known.1.0). let e : known.1.0 ≡ d = omega (arith, known.1.1) in here (subst (λ u. calls (row_at book s) u ≡ true) e known.1.2, known.0))
-      (cases_lt known.1.0 d)
+  newer : (s : ℕ) → (Known book ds s → ⊥) → ((calls (row_at book s) d ≡ true) × Needs book s s → ⊥) → Known book (ds ++ (d ∷ [])) s → ⊥
+  newer s old here known =
+      let i = known.1.0 in
+      let few = length_push ds d in
+      ⊎_elim
+      (λ (lt : i < length ds). old (known.0, (i, lt, subst (λ u. calls (row_at book s) u ≡ true) (get_or_append_left ds (d ∷ []) 0 i lt) known.1.2)))
+      (λ (ge : length ds ≤ i). here (subst (λ u. calls (row_at book s) u ≡ true) (get_or_push ds d 0 i (omega (arith, few, known.1.1))) known.1.2, known.0))
+      (cases_lt i (length ds))
 
-  still : (s : ℕ) → Known book d s → Known book (d + 1) s
-  still s known = (known.0, (known.1.0, omega (arith, known.1.1), known.1.2))
+  still : (s : ℕ) → Known book ds s → Known book (ds ++ (d ∷ [])) s
+  still s known =
+      let few = length_push ds d in
+      (known.0, (known.1.0, omega (arith, few, known.1.1), subst (λ u. calls (row_at book s) u ≡ true) (sym (get_or_append_left ds (d ∷ []) 0 known.1.0 known.1.1)) known.1.2))
 
-  now : (s : ℕ) → (calls (row_at book s) d ≡ true) × Needs book s s → Known book (d + 1) s
-  now s cycle = (cycle.1, (d, omega arith, cycle.0))
+  now : (s : ℕ) → (calls (row_at book s) d ≡ true) × Needs book s s → Known book (ds ++ (d ∷ [])) s
+  now s cycle =
+      let few = length_push ds d in
+      (cycle.1, (length ds, omega (arith, few), subst (λ u. calls (row_at book s) u ≡ true) (sym (get_or_push ds d 0 (length ds) refl)) cycle.0))
 
   -- the variables of one more definition
-  pub next_best : (lowest r : Option ℕ) → Best book d lowest → FirstCycle book d r → Best book (d + 1) (lower_of lowest r)
+  pub next_best : (lowest r : Option ℕ) → Best book ds lowest → FirstCycle book d r → Best book (ds ++ (d ∷ [])) (lower_of lowest r)
   next_best None None best here = λ s h. newer s (best s h) (here s h)
   next_best None (Some r) best here = (here.0, now r here.1, λ s h. newer s (best s (omega (arith, here.0))) (here.2 s h))
   next_best (Some l) None best here = (best.0, still l best.1, λ s h. newer s (best.2 s h) (here s (omega (arith, best.0))))
@@ -124,18 +133,25 @@ module _ (book : Book) (d : ℕ) where
       (λ (le : r ≤ l). let e : min l r ≡ r = omega arith in rw e (here.0, now r here.1, λ s h. newer s (best.2 s (omega arith)) (here.2 s h)))
       (cases_lt l r)
 
-  -- once all definitions are looked at, it is the lowest row that needs itself
-  module _ (joined : Joined book) (all : length book.definitions ≤ d) where
-    known_below : (s : ℕ) → s < length book.rows → Needs book s s → (t : ℕ) × (t ≤ s) × Known book d t
-    known_below s h n = let c = variable_below book joined s h n in (c.row, c.low, (c.itself, (c.variable, omega (arith, c.defined), c.names_it)))
+-- once all definitions are looked at, it is the lowest row that needs itself
+module _ (book : Book) (joined : Joined book) where
+  abbrev every : List ℕ
+  every = range_with_len 0 (length book.definitions)
 
-    pub finds : (lowest : Option ℕ) → Best book d lowest → Finds book lowest
-    finds None best = λ s h n. let k = known_below s h n in best k.0 (omega (arith, k.1)) k.2
-    finds (Some r) best = record {
-      there = best.0;
-      itself = best.1.0;
-      before = λ s h n. let k = known_below s (omega (arith, best.0)) n in best.2 k.0 (omega (arith, k.1)) k.2;
-    }
+  known_below : (s : ℕ) → s < length book.rows → Needs book s s → (t : ℕ) × (t ≤ s) × Known book every t
+  known_below s h n =
+      let c = variable_below book joined s h n in
+      let many : length every ≡ length book.definitions = length-range_with_len 0 (length book.definitions) in
+      let it : c.variable ≡ get_or every c.variable 0 = omega (arith, get_or-range_with_len 0 (length book.definitions) c.variable 0 c.defined) in
+      (c.row, c.low, (c.itself, (c.variable, omega (arith, many, c.defined), subst (λ u. calls (row_at book c.row) u ≡ true) it c.names_it)))
+
+  pub finds : (lowest : Option ℕ) → Best book every lowest → Finds book lowest
+  finds None best = λ s h n. let k = known_below s h n in best k.0 (omega (arith, k.1)) k.2
+  finds (Some r) best = record {
+    there = best.0;
+    itself = best.1.0;
+    before = λ s h n. let k = known_below s (omega (arith, best.0)) n in best.2 k.0 (omega (arith, k.1)) k.2;
+  }
 
 -- a book of one row that is false needs nothing
 pub false_guarded : Guarded (book_of (False ∷ []) (0 ∷ []))

@@ -135,10 +135,5 @@ pub(crate) fn lowest_cycle(draft: Draft<'_>) -> Option<usize>
     requires { Joined (drafted draft) }
     ensures { Finds (drafted draft.entry) result }
 {
-    // A loop, since `filter_map` with `min` got no proof: `lowest_variable` says what it finds, and not how it is computed.
-    let mut lowest = None;
-    for d in 0..draft.definitions.len() {
-        lowest = lower(lowest, lowest_variable(draft, d));
-    }
-    lowest
+    (0..draft.definitions.len()).fold(None, |lowest, d| lower(lowest, lowest_variable(draft, d)))
 }

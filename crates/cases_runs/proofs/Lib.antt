@@ -1,3 +1,4 @@
+mod Finding
 mod Joining
 mod Lining
 mod Noting

@@ -15,12 +15,11 @@ use std::alloc::Global;
 fn sort_of<S: Sort>(name: &[u8]) -> Option<(usize, S)>
     ensures { IfSome result (λ p. Names S.Sort.sorts S.Sort.word name.now p.0 p.1) }
 {
-    for (place, sort) in S::all().iter().enumerate() {
-        if sort.name().as_bytes() == name {
-            return Some((place, *sort));
-        }
-    }
-    None
+    S::all()
+        .iter()
+        .copied()
+        .enumerate()
+        .find(|(_, sort)| sort.name().as_bytes() == name)
 }
 
 // Runs the case of a line: `SORT NUMBER TAG ..`. The tag is of no account here.

@@ -1,16 +1,17 @@
--- One more definition.
-use Rattle.std.proofs.Common.{◌+◌, sym, subst, rules}
+-- One more definition, at each step of the fold.
+use Rattle.std.proofs.Common.{length, refl, arith, rules}
+use Rattle.std.proofs.iter.Yields.{nat_range_steps}
+use Rattle.std.proofs.lemmas.Fn.{fold_over}
+use Rattle.std.proofs.lemmas.Iterator.{YieldsList-from_range}
 use Rattle.books.specs.Drafts.{drafted}
 use Rattle.books.proofs.Cycles.{Best, none_yet, next_best, finds}
 use Rattle.books.proofs.guard.lowest_cycle.Goals as goal
 
-pub loop-d-init : goal.loop-d-init
-loop-d-init c = none_yet (drafted c.args.draft)
-
-pub loop-d-preserved : goal.loop-d-preserved
-loop-d-preserved c =
-    subst (Best (drafted c.args.draft) (c.loop-d.d + 1)) (sym c.lower-lowest.ensures)
-    (next_best (drafted c.args.draft) c.loop-d.d c.loop-d.lowest c.lowest_variable.result c.loop-d.invariant c.lowest_variable.ensures)
-
 pub returns : goal.returns
-returns c = finds (drafted c.args.draft) c.loop-d.d (search rules) (search rules) c.loop-d.lowest c.loop-d.invariant
+returns c =
+    let book = drafted c.args.draft in
+    let n = length book.definitions in
+    let places = YieldsList-from_range {s = record { start = 0; end = n }} 0 n n refl (omega arith) in
+    finds book c.requires c.fold.result
+    (fold_over nat_range_steps (λ d. d) _ (Best book) _ (λ ds a d b f' best k. let next = next_best book ds d a in search rules)
+    _ _ _ _ places.runs (none_yet book) c.fold.ensures.ran)
