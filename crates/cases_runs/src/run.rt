@@ -70,11 +70,9 @@ pub fn run<S: Sort>(heap: Global, input: &[u8]) -> Result<String, LineFault>
     ensures { IfOk result (λ s. Reports S.Sort.sorts S.Sort.word S.Sort.comes input.now (string_bytes s)) }
 {
     let mut report = Report::new::<S>(heap)?;
-    // Counted here: after `enumerate` the sum of 1 would want a bound on the lines, and nothing would be shorter.
-    let mut number: usize = 1;
-    for line in Lines::of(input) {
-        take_line::<S>(heap, &mut report, number, line)?;
-        number = number.saturating_add(1);
+    // Lines are numbered from 1.
+    for (i, line) in Lines::of(input).enumerate() {
+        take_line::<S>(heap, &mut report, i + 1, line)?;
     }
     Ok(report.finish::<S>()?)
 }
