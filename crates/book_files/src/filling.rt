@@ -26,6 +26,7 @@ pub(crate) fn fill<K: Number>(
     let mut definitions = LentList::new(definitions, MOST_DEFINITIONS);
     let mut last = Tag::Number;
     let mut rest = bytes;
+    // no iterator over fields, as in the files of patterns
     while !rest.is_empty() {
         let place = bytes.len() - rest.len();
         let field = next_field(rest, u8::from(last), place)?;

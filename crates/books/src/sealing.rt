@@ -1,4 +1,4 @@
-// Tests whole books, and seals them.
+// Tests whole books.
 ghost use Rattle.std.specs.Prelude.{◌≡◌};
 ghost use Rattle.books.specs.Drafts.{drafted, limits_in};
 ghost use Rattle.books.specs.Sealing.{plain_test, ComesTo, Only, Seals};

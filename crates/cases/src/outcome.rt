@@ -8,7 +8,7 @@ use crate::parts::Parts;
 use faults::Refusal;
 use std::fmt;
 
-// A refusal as a line states it: `refused NUMBER PLACE CAUSE LAYER`.
+// A refusal as a line states it: `refused NUMBER PLACE CAUSE LAYER`. Numbers, since a line may state any.
 #[derive(Clone, Copy, PartialEq, Eq)]
 pub struct Refused {
     pub number: usize,

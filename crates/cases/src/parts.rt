@@ -1,4 +1,4 @@
-// Bytes parted by a mark, as lines by byte 10 and words by one blank each.
+// Bytes parted by a mark, as words by one blank each.
 ghost use Rattle.std.specs.Prelude.{◌≡◌, ◌∷◌, drop, Decides};
 ghost use Rattle.std.specs.Iterator.{YieldsFirstRef, item_count};
 ghost use Rattle.cases.specs.Splits.{split, Parted, Cuts, parts_after};

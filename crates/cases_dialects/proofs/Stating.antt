@@ -6,13 +6,6 @@ use Rattle.cases.specs.declared.outcome.Refused.{Refused}
 use Rattle.cases_dialects.specs.Expected.{Expects}
 use Rattle.std.proofs.lemmas.Bool.{both_ways}
 
--- words that begin with another word than `ok`, and spell no refusal
-pub neither :
-    (words after : List (List ℕ)) (r : Bool) → Decides r (words ≡ codes "ok" ∷ after) → after ≡ drop 1 words → r ≡ false
-    → ((x : Refused) → Spells words x → ⊥) → (x : Result ℕ Refused) → Expects words x → ⊥
-neither words after r decides is other none (Ok n) h = both_ways r other (decides.1 (rw is h.said))
-neither words after r decides is other none (Err x) h = none x h
-
 -- the outcome that the words after two state
 pub stated :
     (words after left : List (List ℕ)) (r : Option (Result ℕ Refused)) (x : Result ℕ Refused) → after ≡ drop 1 words → left ≡ drop 1 after

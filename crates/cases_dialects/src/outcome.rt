@@ -16,8 +16,7 @@ pub(crate) fn expected(words: Parts<'_>) -> Option<Result<usize, Refused>>
 {
     let mut rest = words;
     if !rest.next_is(b"ok") {
-        let refused = read_refusal(words)?;
-        return Some(Err(refused));
+        return read_refusal(words).map(Err);
     }
     let count = next_number(&mut rest)?;
     if rest.next().is_some() {

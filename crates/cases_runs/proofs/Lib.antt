@@ -4,3 +4,4 @@ mod Lining
 mod Noting
 mod Reporting
 mod Spelling
+mod Same

@@ -5,7 +5,8 @@ use Rattle.cases.specs.declared.tally.Tally.{Tally}
 use Rattle.std.proofs.lemmas.Bool.{cases_Bool}
 use Rattle.lines.specs.Lines.{lines, onto_first}
 use Rattle.cases_runs.specs.Reports.{name_at, counts_text}
-use Rattle.cases_runs.specs.Runs.{Steps, Runs, more, over, Reports}
+use Rattle.cases_runs.specs.Runs.{lines_of, Steps, Runs, more, over, Reports}
+use Rattle.cases_runs.proofs.Same.{same_lines}
 
 onto_at_most : (c : ℕ) (ls : List (List ℕ)) → length (onto_first c ls) ≤ length ls + 1
 onto_at_most c [] = omega arith
@@ -49,10 +50,11 @@ module _ {S : Type 0} (sorts : List S) (word : S → List ℕ) (comes : S → Li
       → Onward number rest ts text input start none → start ≡ replicate (length sorts + 1) no_cases → none ≡ []
       → report ≡ text ++ counts_text (name_at sorts word) ts → Reports sorts word comes input report
   finished number rest input ts start text none report over_now inv fresh empty grew =
-      let runs : Runs sorts word comes 1 (lines input) start none ts text = inv ts text (rw over_now (over number ts text)) in
+      let runs : Runs sorts word comes 1 (lines_of input) start none ts text =
+      subst (λ ls. Runs sorts word comes 1 ls start none ts text) (same_lines input) (inv ts text (rw over_now (over number ts text))) in
       record {
         tallies = ts;
         text = text;
-        runs = subst (λ s. Runs sorts word comes 1 (lines input) s [] ts text) fresh (subst (λ t. Runs sorts word comes 1 (lines input) start t ts text) empty runs);
+        runs = subst (λ s. Runs sorts word comes 1 (lines_of input) s [] ts text) fresh (subst (λ t. Runs sorts word comes 1 (lines_of input) start t ts text) empty runs);
         counts = grew;
       }

@@ -2,11 +2,24 @@
 use Rattle.std.specs.Prelude.{◌≡◌, ℕ, ◌+◌, Bool, true, false, List, [], ◌∷◌, ◌++◌, length, drop, replicate, Some, ◌≢◌, slice_index, slice_index_or, slice_set}
 use Rattle.std.specs.List.{slice_get}
 use Rattle.cases.specs.Splits.{split}
-use Rattle.lines.specs.Lines.{lines}
 use Rattle.cases.specs.Tallies.{sum, no_cases, counted}
 use Rattle.cases.specs.declared.tally.Tally.{Tally}
 use Rattle.cases.specs.Outcomes.{number_first}
 use Rattle.cases_runs.specs.Reports.{name_at, counts_text, differing_line, unread_line}
+
+-- the last part of an input is a line unless it is empty
+abbrev pub last_line : List ℕ → List (List ℕ)
+last_line [] = []
+last_line (b ∷ bs) = (b ∷ bs) ∷ []
+
+abbrev pub closed_lines : List (List ℕ) → List (List ℕ)
+closed_lines [] = []
+closed_lines (p ∷ []) = last_line p
+closed_lines (p ∷ q ∷ ps) = p ∷ closed_lines (q ∷ ps)
+
+-- the lines of an input, each closed by byte 10; the last may be open
+abbrev pub lines_of : List ℕ → List (List ℕ)
+lines_of input = closed_lines (split 10 input)
 
 -- a remark begins with `#`
 abbrev pub Remark : List ℕ → Type 0
@@ -53,7 +66,7 @@ module _ {S : Type 0} (sorts : List S) (word : S → List ℕ) (comes : S → Li
   pub record ReportsFrom (start : List Tally) (input report : List ℕ) : Type 0 where
     pub tallies : List Tally
     pub text : List ℕ
-    pub runs : Runs 1 (lines input) start [] tallies text
+    pub runs : Runs 1 (lines_of input) start [] tallies text
     pub counts : report ≡ text ++ counts_text (name_at sorts word) tallies
 
   -- the report of an input: there is a tally for each sort, and one more for the lines that can't be read

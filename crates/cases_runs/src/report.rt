@@ -30,10 +30,7 @@ pub struct Report {
 fn name_at<S: Sort>(place: usize) -> &'static str
     ensures { result.now ≡ name_at S.Sort.sorts S.Sort.word place }
 {
-    match S::all().get(place) {
-        Some(sort) => sort.name(),
-        None => "unread",
-    }
+    S::all().get(place).map_or("unread", |sort| sort.name())
 }
 
 // Adds the lines of all places.

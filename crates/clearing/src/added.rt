@@ -6,7 +6,7 @@ ghost use Rattle.clearing.specs.Adding.{rows_of, listed};
 use rules::place::Place;
 use rules::row::Row;
 
-// The rows that are added.
+// The rows that are added. No heap, and so an array for each count.
 #[derive(Clone, Copy)]
 pub(crate) enum NewRows {
     None,

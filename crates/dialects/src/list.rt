@@ -39,10 +39,9 @@ impl<'a, S> PatternList<'a, S> {
     fn get(&self, pattern: usize) -> Option<&'a [u8]>
         ensures { Finds self.now.file.now self.now.parts.now pattern result }
     {
-        if pattern >= self.count() {
-            return None;
-        }
-        Some(self.parts[pattern].of(self.file))
+        self.parts[..self.count()]
+            .get(pattern)
+            .map(|part| part.of(self.file))
     }
 }
 

@@ -39,6 +39,7 @@ fn fill<S: Syntax>(bytes: &[u8], parts: &mut [Part]) -> Result<usize, PatternFau
     }
     let mut found = LentList::new(parts, MOST_PATTERNS);
     let mut rest = bytes;
+    // no iterator over fields: where one is cut short, each file's reader tells so by a fault of its own
     while !rest.is_empty() {
         let place = bytes.len() - rest.len();
         let field = pattern_field::<S>(rest, place)?;

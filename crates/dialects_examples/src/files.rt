@@ -70,7 +70,7 @@ fn an_empty_pattern_is_a_pattern(rt: HostRuntime) {
 fn a_refused_file_leaves_nothing(rt: HostRuntime) {
     let mut parts = [UNTOUCHED; 3];
     let read = read_names(b"\x04\x00\x03Ulm\x05\x00\x00", &mut parts);
-    assert_eq!(rt; read.is_err(), true);
+    assert!(rt; read.is_err());
     assert_eq!(rt; parts[0], Part::default());
     assert_eq!(rt; parts[1], Part::default());
     assert_eq!(rt; parts[2], Part::default());
@@ -128,5 +128,5 @@ fn refusals_are_of_the_fourth_layer(rt: HostRuntime) {
 fn a_refusal_has_a_line(rt: HostRuntime) {
     let refusal = Refusal::from(PatternFault::TooMany(6));
     let line = refusal.line(rt.alloc()).expect(&rt, "there is memory");
-    assert_eq!(rt; line.as_slice() == b"refused 34 at 6\n".as_slice(), true);
+    assert!(rt; line.as_slice() == b"refused 34 at 6\n".as_slice());
 }

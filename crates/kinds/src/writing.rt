@@ -17,7 +17,7 @@ fn last_digit(n: u64) -> u8
     b'0' + (n % 10) as u8
 }
 
-// A point and the six digits of a part of a million.
+// A point and the six digits of a part of a million. `itoa` writes no zeros in front.
 pub(crate) fn pointed(part: u64) -> [u8; 7]
     ensures { result ≡ 0x2E ∷ six_digits part }
 {

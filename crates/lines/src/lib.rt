@@ -21,6 +21,7 @@ fn line_end(bytes: &[u8]) -> Option<usize>
 
 // Takes the first line off, without the byte that closes it.
 // Not the library's `split_inclusive`: it leaves that byte on, and says of the pieces only one by one what they are.
+// Not the `cut` of `cases`: that one knows any mark, and no part that lacks its own.
 fn split_line(bytes: &[u8]) -> (&[u8], &[u8])
     ensures { 0 < length bytes.now → FirstLine bytes.now result.0.now result.1.now }
 {

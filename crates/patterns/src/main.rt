@@ -57,11 +57,7 @@ pub(crate) struct Memory<'a> {
 }
 
 // What is printed for these files and this input, with this memory.
-fn output<'a>(
-    heap: Global,
-    files: Files<'_>,
-    memory: &mut Memory<'_>,
-) -> Result<Vec<u8>, AllocError>
+fn output(heap: Global, files: Files<'_>, memory: &mut Memory<'_>) -> Result<Vec<u8>, AllocError>
     ensures { IfOk result (λ v. PrintsFiles files.entry memory.old v.items) }
 {
     answers(heap, files, memory).or_else(|stop| stop.line(heap))

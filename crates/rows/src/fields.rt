@@ -4,7 +4,7 @@ ghost use Rattle.rows.specs.Fields.{range_ends, bounds_ends, ends_from, fields_f
 
 use rules::row::{Bounds, Range};
 
-// The ends that are present.
+// The ends that are present. No `Bounds`: those name numbers of a book, and these are any ends as the bytes hold them.
 #[derive(Clone, Copy, Default)]
 pub(crate) struct Ends {
     pub(crate) lower: Option<u16>,

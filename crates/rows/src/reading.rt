@@ -63,11 +63,9 @@ impl Fields {
     fn range_alone(self) -> Option<Range>
         ensures { result ≡ range_alone self }
     {
-        if self.first == 0 && self.second == 0 {
-            self.ends.range()
-        } else {
-            None
-        }
+        (self.first == 0 && self.second == 0)
+            .then_some(self.ends)?
+            .range()
     }
 
     // The bounds, if no operand is used.
