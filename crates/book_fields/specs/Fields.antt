@@ -1,7 +1,9 @@
 -- What refuses the next field of a book's file, whatever stands in it.
-use Rattle.std.specs.Prelude.{◌≡◌, ◌≢◌, ℕ, ◌+◌, Bool, true, false, not, ◌&&◌, ◌||◌, List, ◌++◌, length, take, drop, Ok, Err, Result, ◌==◌, nat_le, nat_lt}
+use Rattle.std.specs.Prelude.{◌≡◌, ◌≢◌, ℕ, ◌+◌, Bool, true, false, cond, not, ◌&&◌, ◌||◌, List, ◌++◌, length, take, drop, Ok, Err, Result, ◌==◌, nat_le, nat_lt}
 use Rattle.std.specs.Result.{result_and}
 use Rattle.fields.specs.Fields.{field_bytes, tag_of, stated_length}
+use Rattle.fields.specs.declared.field.CutShort.{CutShort}
+use Rattle.fields.specs.declared.field.CutShort.TheVariants.{Head, Body}
 use Rattle.book_fields.specs.declared.field.Tag.{Tag}
 use Rattle.book_fields.specs.declared.field.Tag.TheVariants.{Number, Row, Definition}
 use Rattle.book_fields.specs.declared.field.UnknownTag.{UnknownTag as Unknown}
@@ -28,6 +30,11 @@ is_misplaced last tag = nat_lt tag 1 || (nat_lt 3 tag || nat_lt tag last)
 abbrev pub PlacesTag : (last number place : ℕ) → Result Tag BookFault → Type 0
 PlacesTag last number place (Ok t) = (is_misplaced last number ≡ false) × (tag_number t ≡ number)
 PlacesTag last number place (Err e) = (is_misplaced last number ≡ true) × (e ≡ UnknownTag place)
+
+-- a field that is cut short is refused by its tag, if that is told and misplaced, or else by its length
+abbrev pub cut_fault : (last place : ℕ) → CutShort → BookFault
+cut_fault last place Head = WrongLength place
+cut_fault last place (Body tag) = cond (is_misplaced last tag) (UnknownTag place) (WrongLength place)
 
 -- a row has 10 bytes, a definition 2
 abbrev pub is_wrong : (tag length : ℕ) → Bool

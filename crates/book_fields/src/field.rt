@@ -1,6 +1,6 @@
 // Takes the next field off a book's file.
 ghost use Rattle.std.specs.Prelude.{◌≡◌};
-ghost use Rattle.book_fields.specs.Fields.{is_wrong, tag_number, NamesTag, PlacesTag, TakesField, Cuts};
+ghost use Rattle.book_fields.specs.Fields.{is_wrong, cut_fault, tag_number, NamesTag, PlacesTag, TakesField, Cuts};
 
 use books::fault::BookFault;
 use fields::field::{CutShort, split_field};
@@ -64,6 +64,18 @@ fn placed_tag(number: u8, last: u8, place: usize) -> Result<Tag, BookFault>
     }
 }
 
+// Why a field that is cut short is refused: by its tag, if that is told and refused, or else by its length.
+fn cut_fault(cut: CutShort, last: u8, place: usize) -> BookFault
+    ensures { result ≡ cut_fault last place cut }
+{
+    match cut {
+        CutShort::Body(tag) => placed_tag(tag, last, place)
+            .err()
+            .unwrap_or(BookFault::WrongLength(place)),
+        CutShort::Head => BookFault::WrongLength(place),
+    }
+}
+
 // Whether a body has another length than its tag asks for. A number may have any.
 fn is_wrong(tag: Tag, length: usize) -> bool
     ensures { result ≡ is_wrong (tag_number tag) length }
@@ -81,15 +93,7 @@ pub fn next_field(bytes: &[u8], last: u8, place: usize) -> Result<BookField<'_>,
     ensures takes { TakesField last place bytes.now result }
     ensures cuts { Cuts bytes.now result }
 {
-    // A match and no `map_err`: the tag of a body that is cut short may be refused first.
-    let field = match split_field(bytes) {
-        Ok(field) => field,
-        Err(CutShort::Head) => return Err(BookFault::WrongLength(place)),
-        Err(CutShort::Body(tag)) => {
-            placed_tag(tag, last, place)?;
-            return Err(BookFault::WrongLength(place));
-        }
-    };
+    let field = split_field(bytes).map_err(|cut| cut_fault(cut, last, place))?;
     let tag = placed_tag(field.tag, last, place)?;
     if is_wrong(tag, field.body.len()) {
         return Err(BookFault::WrongLength(place));
