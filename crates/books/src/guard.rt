@@ -4,7 +4,6 @@ ghost use Rattle.rules.specs.Book.{needs, variables};
 ghost use Rattle.std.specs.List.{AllByRecursion};
 ghost use Rattle.books.specs.Drafts.{drafted};
 ghost use Rattle.books.specs.Guard.{book_of, if_there, listed, calls as calls_by, Marked, FirstCall, FirstCycle, Finds, lower_of};
-ghost use Rattle.books.specs.Spread.{seen, visit as visited, visit_all, Room, EveryRoom, Fresh, Pops};
 
 use crate::draft::Draft;
 use crate::joined::JoinedDraft;
@@ -18,9 +17,12 @@ struct Search {
     marks: [bool; MOST_ROWS],
     stack: [u16; MOST_ROWS],
     height: usize,
+    ghost within: { height ≤ length stack },
 }
 
 impl Search {
+    ghost use Rattle.books.specs.Spread.{seen, visit as visited, visit_all, Room, EveryRoom, Fresh, Pops};
+
     // Nothing is marked.
     fn new() -> Search
         ensures { Fresh 2048 (seen result) }
@@ -57,7 +59,6 @@ impl Search {
 
     // Takes the uppermost row off, if one waits.
     fn pop(&mut self) -> Option<u16>
-        requires { self.old.height ≤ length self.old.stack }
         ensures { Pops (seen self.old) (seen self.new) result }
     {
         self.height = self.height.checked_sub(1)?;

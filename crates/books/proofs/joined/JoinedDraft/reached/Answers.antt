@@ -1,5 +1,5 @@
 -- Each turn keeps what is known of the marks.
-use Rattle.std.proofs.Common.{◌<◌, length, slice_index_or, None, sym, subst, ◌∙◌, [], arith}
+use Rattle.std.proofs.Common.{◌<◌, length, slice_index_or, None, sym, subst, ◌∙◌, []}
 use Rattle.rules.specs.declared.row.Row.TheVariants.{True}
 use Rattle.books.specs.Drafts.{drafted}
 use Rattle.books.specs.Guard.{Marked}
@@ -15,9 +15,6 @@ pub loop-at-init : goal.loop-at-init
 loop-at-init c =
     subst (Spreading (drafted c.args.self.draft) c.args.start []) (sym c.visit.ensures)
     (started (drafted c.args.self.draft) c.args.start 2048 (seen c.new-search.result) c.requires c.args.self.joined.few c.new-search.ensures).1
-
-pub pop-requires : goal.pop-requires
-pop-requires c = omega (arith, c.loop-at.invariant.room)
 
 pub direct_needs-requires : goal.direct_needs-requires
 direct_needs-requires c =
