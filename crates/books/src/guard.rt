@@ -3,10 +3,10 @@ ghost use Rattle.std.specs.Prelude.{◌≡◌, ◌<◌, ◌≤◌, List, length}
 ghost use Rattle.rules.specs.Book.{needs, variables};
 ghost use Rattle.std.specs.List.{AllByRecursion};
 ghost use Rattle.books.specs.Drafts.{drafted};
-ghost use Rattle.books.specs.Guard.{book_of, if_there, listed, calls as calls_by, Joined, Marked, FirstCall, FirstCycle, Finds, lower_of};
-ghost use Rattle.books.specs.Spread.{seen, visit as visited, visit_all, Room, EveryRoom, Fresh, Pops};
+ghost use Rattle.books.specs.Guard.{book_of, if_there, listed, calls as calls_by, Marked, FirstCall, FirstCycle, Finds, lower_of};
 
 use crate::draft::Draft;
+use crate::joined::JoinedDraft;
 use crate::limits::MOST_ROWS;
 use rules::row::Row;
 
@@ -17,9 +17,12 @@ struct Search {
     marks: [bool; MOST_ROWS],
     stack: [u16; MOST_ROWS],
     height: usize,
+    ghost within: { height ≤ length stack },
 }
 
 impl Search {
+    ghost use Rattle.books.specs.Spread.{seen, visit as visited, visit_all, Room, EveryRoom, Fresh, Pops};
+
     // Nothing is marked.
     fn new() -> Search
         ensures { Fresh 2048 (seen result) }
@@ -56,7 +59,6 @@ impl Search {
 
     // Takes the uppermost row off, if one waits.
     fn pop(&mut self) -> Option<u16>
-        requires { self.old.height ≤ length self.old.stack }
         ensures { Pops (seen self.old) (seen self.new) result }
     {
         self.height = self.height.checked_sub(1)?;
@@ -77,21 +79,6 @@ fn direct_needs(row: Row, definitions: &[u16]) -> [Option<u16>; 2]
     }
 }
 
-// Marks a row and all that it needs. Each row waits at most once, so it ends within as many turns as there are rows.
-fn reached(draft: Draft<'_>, start: u16) -> [bool; MOST_ROWS]
-    requires { (Joined (drafted draft)) × (start < length draft.rows.now) }
-    ensures { Marked (drafted draft.entry) start result }
-{
-    let mut search = Search::new();
-    search.visit(start);
-    while let Some(at) = search.pop() {
-        let [first, second] = direct_needs(draft.rows[usize::from(at)], draft.definitions);
-        search.visit_any(first);
-        search.visit_any(second);
-    }
-    search.marks
-}
-
 // Whether a row is a variable of this definition.
 fn calls(row: Row, definition: usize) -> bool
     ensures { result ≡ calls_by row definition }
@@ -109,16 +96,6 @@ fn lowest_call(rows: &[Row], definition: usize, marks: &[bool]) -> Option<usize>
         .position(|(row, marked)| *marked && calls(*row, definition))
 }
 
-// The lowest variable of this definition that needs itself.
-// A variable needs itself exactly if its definition's body reaches it.
-fn lowest_variable(draft: Draft<'_>, definition: usize) -> Option<usize>
-    requires { (Joined (drafted draft)) × (definition < length draft.definitions.now) }
-    ensures { FirstCycle (drafted draft.entry) definition result }
-{
-    let marks = reached(draft, draft.definitions[definition]);
-    lowest_call(draft.rows, definition, &marks)
-}
-
 // The lower of two rows that may be there.
 fn lower(one: Option<usize>, other: Option<usize>) -> Option<usize>
     ensures { result ≡ lower_of one other }
@@ -129,11 +106,41 @@ fn lower(one: Option<usize>, other: Option<usize>) -> Option<usize>
     }
 }
 
-// The lowest row that needs itself, if one does. Such a row is a variable: any other needs only rows below it,
-// and the next one on its way back to itself would need itself too.
-pub(crate) fn lowest_cycle(draft: Draft<'_>) -> Option<usize>
-    requires { Joined (drafted draft) }
-    ensures { Finds (drafted draft.entry) result }
-{
-    (0..draft.definitions.len()).fold(None, |lowest, d| lower(lowest, lowest_variable(draft, d)))
+impl JoinedDraft<'_> {
+    // Marks a row and all that it needs. Each row waits at most once, so it ends within as many turns as there are rows.
+    fn reached(self, start: u16) -> [bool; MOST_ROWS]
+        requires { start < length self.draft.rows.now }
+        ensures { Marked (drafted self.entry.draft) start result }
+    {
+        let Draft { rows, definitions } = self.draft;
+        let mut search = Search::new();
+        search.visit(start);
+        while let Some(at) = search.pop() {
+            let [first, second] = direct_needs(rows[usize::from(at)], definitions);
+            search.visit_any(first);
+            search.visit_any(second);
+        }
+        search.marks
+    }
+
+    // The lowest variable of this definition that needs itself.
+    // A variable needs itself exactly if its definition's body reaches it.
+    fn lowest_variable(self, definition: usize) -> Option<usize>
+        requires { definition < length self.draft.definitions.now }
+        ensures { FirstCycle (drafted self.entry.draft) definition result }
+    {
+        let marks = self.reached(self.draft.definitions[definition]);
+        lowest_call(self.draft.rows, definition, &marks)
+    }
+
+    // The lowest row that needs itself, if one does. Such a row is a variable: any other needs only rows below it,
+    // and the next one on its way back to itself would need itself too.
+    pub(crate) fn lowest_cycle(self) -> Option<usize>
+        ensures { Finds (drafted self.entry.draft) result }
+    {
+        (0..self.draft.definitions.len()).fold(
+            None,
+            |lowest, d| lower(lowest, self.lowest_variable(d)),
+        )
+    }
 }

@@ -5,6 +5,7 @@ pub mod book;
 pub mod draft;
 pub mod fault;
 mod guard;
+mod joined;
 pub mod limits;
 pub mod parts;
 pub mod sealing;

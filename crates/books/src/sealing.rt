@@ -5,7 +5,7 @@ ghost use Rattle.books.specs.Sealing.{plain_test, ComesTo, Only, Seals};
 
 use crate::draft::Draft;
 use crate::fault::BookFault;
-use crate::guard::lowest_cycle;
+use crate::joined::JoinedDraft;
 use crate::limits::{Limits, MOST_NUMBERS};
 use crate::parts::{ensure, test_counted_row, test_definition, test_each, test_variable};
 use kinds::number::Number;
@@ -37,7 +37,8 @@ pub fn test_book<K: Number>(draft: Draft<'_>, limits: Limits<'_, K>) -> Result<(
     ensures seals { Seals (limits_in K.Number.kind limits.entry) (drafted draft.entry) result }
 {
     test_parts(draft, limits)?;
-    match lowest_cycle(draft) {
+    let joined = JoinedDraft { draft };
+    match joined.lowest_cycle() {
         Some(row) => Err(BookFault::Unguarded(row)),
         None => Ok(()),
     }

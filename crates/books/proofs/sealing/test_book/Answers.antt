@@ -12,9 +12,9 @@ returns-in_err-test_parts g c =
     let t = refused_by limits book c.in_err-test_parts.field-0.0 c.in_err-test_parts.ensures in
     rw (p.1, p.2) (record { comes = t.0; only = λ other. only_one limits book _ other t.0; seals = t.1 })
 
-pub lowest_cycle-requires : goal.lowest_cycle-requires
-lowest_cycle-requires g c =
-    passed_joined (limits_in g.K.Number.kind c.args.limits) (drafted c.args.draft) c.in_ok-test_parts.ensures
+pub invariant_of-joined : goal.invariant_of-joined
+invariant_of-joined g c =
+    record { joined = passed_joined (limits_in g.K.Number.kind c.args.limits) (drafted c.args.draft) c.in_ok-test_parts.ensures }
 
 pub returns-in-Some : goal.returns-in-Some
 returns-in-Some g c =
