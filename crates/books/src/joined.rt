@@ -9,5 +9,6 @@ use crate::draft::Draft;
 #[derive(Clone, Copy)]
 pub(crate) struct JoinedDraft<'a> {
     pub(crate) draft: Draft<'a>,
+    // `by` shows that the fact has one proof at most: it holds words that go by recursion.
     ghost joined: { Joined (drafted draft) } by { Prim.hlevel props },
 }

@@ -39,6 +39,7 @@ fn run_line<S: Sort>(heap: Global, line: &[u8]) -> Result<Ran, LineFault>
     })
 }
 
+// Whether a line begins with `#` and so is no case.
 fn is_remark(line: &[u8]) -> bool
     ensures { Decides result (Remark line.now) }
 {

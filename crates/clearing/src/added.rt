@@ -18,6 +18,7 @@ pub(crate) enum NewRows {
 }
 
 impl NewRows {
+    // The rows, one after another.
     pub(crate) fn as_slice(&self) -> &[Row]
         ensures { result.now ≡ rows_of self.now }
     {

@@ -7,7 +7,7 @@ use crate::limits::MOST_PATTERNS;
 use crate::masks::Wildcards;
 use crate::names::Exact;
 use crate::syntax::Syntax;
-use fields::field::{CutShort, Field, LONGEST_FILE, split_field};
+use fields::field::{CutShort, Field, HEAD, LONGEST_FILE, split_field};
 use fields::part::Part;
 use lists::lent::LentList;
 
@@ -44,7 +44,7 @@ fn fill<S: Syntax>(bytes: &[u8], parts: &mut [Part]) -> Result<usize, PatternFau
         let place = bytes.len() - rest.len();
         let field = pattern_field::<S>(rest, place)?;
         let part = Part {
-            start: (place + 3) as u16,
+            start: (place + HEAD) as u16,
             length: field.body.len() as u16,
         };
         found.push(part).ok_or(PatternFault::TooMany(place))?;

@@ -4,6 +4,9 @@ ghost use Rattle.fields.specs.Fields.{Splits};
 // No file is longer than this.
 pub const LONGEST_FILE: usize = 65535;
 
+// How many bytes come before the body: the tag, and two of length.
+pub const HEAD: usize = 3;
+
 // The field that bytes begin with, and what comes after it.
 #[derive(Clone, Copy)]
 pub struct Field<'a> {

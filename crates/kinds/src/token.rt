@@ -58,6 +58,7 @@ fn with_rest<'a>(minus: bool, int: &'a [u8], rest: &'a [u8]) -> Option<Plain<'a>
     }
 }
 
+// The token of bytes that follow a minus, or that begin without one.
 fn after_minus(minus: bool, bytes: &[u8]) -> Option<Plain<'_>>
     ensures { TakesAfter minus bytes.now result }
 {
