@@ -6,7 +6,7 @@ ghost use Rattle.cases_dialects.specs.Bits.{bits};
 use dialects::dialect::Dialect;
 use std::alloc::{AllocError, Global};
 
-// The bit of an answer.
+// The bit of an answer: the library has no character of a boolean.
 fn bit(yes: bool) -> char
     ensures { (result ≡ (if yes then 49 else 48)) × (result < 128) }
 {

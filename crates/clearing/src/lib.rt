@@ -48,6 +48,7 @@ pub fn clear(draft: Draft<'_>, out: &mut ClearedMemory<'_>) -> Result<usize, Cle
     if !fits(d, out.definitions.len() / 2, MOST_DEFINITIONS / 2) {
         return Err(ClearFault::TooManyDefinitions);
     }
+    // a fixed table beside the rows: there is no heap here
     let mut places = [Place::default(); MOST_ROWS];
     write_rows(draft.rows, d as u16, out.rows, &mut places);
     write_bodies(

@@ -5,7 +5,7 @@ mod calls;
 
 #[derive(Drop)]
 pub struct LentList<'a, T> {
-    // the memory, with the list's values at its front
+    // the memory, with the list's values at its front: lent and counted, since there is no heap
     slots: &'a mut [T],
     count: usize,
     most: usize,

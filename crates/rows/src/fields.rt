@@ -42,7 +42,7 @@ pub(crate) struct Fields {
     pub(crate) ends: Ends,
 }
 
-// The ends, by the byte that says which are present: bit 0 the lower, bit 1 the upper. An absent one holds 0.
+// The ends, by the byte that says which are present: bit 0 the lower, bit 1 the upper. An absent one holds 0. A table, as for `present`.
 fn ends_of(present: u8, lower: u16, upper: u16) -> Option<Ends>
     ensures { result ≡ ends_from present lower upper }
 {

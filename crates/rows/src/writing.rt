@@ -30,7 +30,7 @@ fn ended(operator: u8, second: u16, ends: Ends) -> Fields
     }
 }
 
-// The fields of a row.
+// The fields of a row. The numbers of the operators stand here and in reading alone.
 fn row_fields(row: Row) -> Fields
     ensures { result ≡ fields_of row }
 {
