@@ -1,10 +1,8 @@
 -- What states no outcome.
-use Rattle.std.proofs.Common.{◌≡◌, ℕ, Bool, false, List, ◌∷◌, drop, Some, None, Ok, Err, codes, Decides, MatchOption, Option, Result, subst, ap, ◌∙◌}
+use Rattle.std.proofs.Common.{◌≡◌, ℕ, List, drop, Some, None, MatchOption, Option, Result, subst, ap, ◌∙◌}
 use Rattle.std.proofs.lemmas.List.{drop-drop}
-use Rattle.cases.specs.Outcomes.{Spells}
 use Rattle.cases.specs.declared.outcome.Refused.{Refused}
 use Rattle.cases_dialects.specs.Expected.{Expects}
-use Rattle.std.proofs.lemmas.Bool.{both_ways}
 
 -- the outcome that the words after two state
 pub stated :
