@@ -12,15 +12,11 @@ use Rattle.rows.proofs.Back.{bytes_back}
 use Rattle.books.specs.Tests.{Tested, passes}
 use Rattle.books.specs.declared.fault.BookFault.{BookFault}
 use Rattle.books.specs.declared.fault.BookFault.TheVariants.{Unguarded}
-use Rattle.books.proofs.Keeping.{lowest_one}
+use Rattle.books.proofs.Keeping.{lowest_one, refused_passes}
 use Rattle.book_files.specs.Drafts.{Numeral, Draft, drafted, Room, number_fields, row_fields, definition_fields, file, body_bytes, book}
 use Rattle.book_files.specs.Files.{Each, limits, NumberFits, RowFits, BodyFits, next_test, end_test, Ends, Stops, ReadsTo, ComesTo}
 use Rattle.book_files.proofs.Runs.{Stuck, run_once}
 use Rattle.book_files.proofs.Nexts.{allowed_ended, number_passes, row_passes, body_passes, goes_on}
-
--- a test that passes does not refuse
-never : {X : Type 0} (e : BookFault) → Err e ≡ passes → X
-never e h = let z : ◌≡◌ {A = ℕ} 0 1 = cc in absurd (omega arith)
 
 -- one test names one fault
 same_fault : {A : Type 0} (t : Tested) (e f : BookFault) → t ≡ Err e → t ≡ Err f → ◌≡◌ {A = Result A BookFault} (Err f) (Err e)
@@ -77,13 +73,13 @@ module _ {K : Type 0} (kind : Kind K) (patterns : ℕ) (room : Room) where
 
   same_end : (d : Draft K) (o other : Result (Draft K) BookFault) → Ends d o → Ends d other → other ≡ o
   same_end d (Ok x) (Ok y) a b = ap Ok (b.0 ∙ sym a.0)
-  same_end d (Ok x) (Err f) a (inl b) = never f (sym b ∙ a.1)
+  same_end d (Ok x) (Err f) a (inl b) = refused_passes f (sym b ∙ a.1)
   same_end d (Ok x) (Err f) a (inr b) = absurd (a.2 b.1.0 b.1.2.there b.1.2.itself)
-  same_end d (Err e) (Ok y) (inl a) b = never e (sym a ∙ b.1)
+  same_end d (Err e) (Ok y) (inl a) b = refused_passes e (sym a ∙ b.1)
   same_end d (Err e) (Ok y) (inr a) b = absurd (b.2 a.1.0 a.1.2.there a.1.2.itself)
   same_end d (Err e) (Err f) (inl a) (inl b) = same_fault (end_test d) e f a b
-  same_end d (Err e) (Err f) (inl a) (inr b) = never e (sym a ∙ b.0)
-  same_end d (Err e) (Err f) (inr a) (inl b) = never f (sym b ∙ a.0)
+  same_end d (Err e) (Err f) (inl a) (inr b) = refused_passes e (sym a ∙ b.0)
+  same_end d (Err e) (Err f) (inr a) (inl b) = refused_passes f (sym b ∙ a.0)
   same_end d (Err e) (Err f) (inr a) (inr b) = ap Err (b.1.1 ∙ ap Unguarded (lowest_one (book d) b.1.0 a.1.0 b.1.2 a.1.2) ∙ sym a.1.1)
 
   same_stop : (d : Draft K) (rest : List ℕ) (o other : Result (Draft K) BookFault) → Stops kind patterns room d rest o → Stops kind patterns room d rest other → other ≡ o
