@@ -43,6 +43,7 @@ fn memory_for(heap: Global, count: usize) -> Result<Vec<Part>, AllocError>
 }
 
 // A case of outcomes.
+#[tactic(auto, using(crate::proofs::Telling::apart))]
 fn case_of(
     heap: Global,
     expected: Result<usize, Refused>,
