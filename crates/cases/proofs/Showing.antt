@@ -1,7 +1,6 @@
 -- Bytes shown as a word, and read back.
-use Rattle.std.proofs.Common.{◌≡◌, ℕ, zero, suc, ◌+◌, ◌-◌, ◌^◌, ◌/◌, ◌%◌, ◌<◌, ◌≤◌, true, false, eqb, List, [], ◌∷◌, ◌++◌, length, get_or, drop, Some, sym, refl, ap, ◌∙◌, inl, inr, arith}
-use Rattle.std.specs.Fmt.{digits, padded_integral, format_spec}
-use Rattle.std.proofs.lemmas.Fmt.{hex_byte}
+use Rattle.std.proofs.Common.{◌≡◌, ℕ, zero, suc, ◌+◌, ◌/◌, ◌%◌, ◌<◌, ◌≤◌, true, false, eqb, List, [], ◌∷◌, ◌++◌, length, get_or, drop, Some, sym, refl, ap, ◌∙◌, inl, inr, arith}
+use Rattle.std.proofs.Math.Utf8.{encode}
 use Rattle.std.proofs.lemmas.List.{append_assoc, append-nil, drop_more, drop_all}
 use Rattle.std.proofs.lemmas.Bool.{cases_lt, le-leb, lt-leb, lt-ltb, le-ltb, ne_eqb, both_ways}
 use Rattle.cases.specs.Bytes.{longest, byte_of, hex_digit, pairs, limited, bytes_of, hex_char, hex_text, shown}
@@ -11,14 +10,14 @@ use Rattle.cases.proofs.Piecing.{limited_within}
 
 -- two digits more
 pub text_more :
-    (out now xs : List ℕ) (i b : ℕ) → i < length xs → b ≡ get_or xs i 0 → b < 256
-    → now ≡ out ++ padded_integral (format_spec 32 0 4 2 (2 ^ 64 - 1)) false [] (digits 16 false b)
-    → out ++ hex_text (drop i xs) ≡ hex_text xs → now ++ hex_text (drop (i + 1) xs) ≡ hex_text xs
-text_more out now xs i b h is small wrote inv =
+    (out mid now xs : List ℕ) (i high low : ℕ) → i < length xs → high ≡ hex_char (get_or xs i 0 / 16)
+    → low ≡ hex_char (get_or xs i 0 % 16) → encode high ≡ high ∷ [] → encode low ≡ low ∷ [] → mid ≡ out ++ encode high
+    → now ≡ mid ++ encode low → out ++ hex_text (drop i xs) ≡ hex_text xs → now ++ hex_text (drop (i + 1) xs) ≡ hex_text xs
+text_more out mid now xs i high low h is-high is-low one two first second inv =
     let rest : List ℕ = hex_text (drop (i + 1) xs) in
-    let step : hex_text (drop i xs) ≡ hex_char (b / 16) ∷ hex_char (b % 16) ∷ rest = rw is (ap hex_text (drop_more xs i 0 h)) in
-    let two : now ≡ out ++ (hex_char (b / 16) ∷ hex_char (b % 16) ∷ []) = wrote ∙ ap (λ (t : List ℕ). out ++ t) (hex_byte false b small) in
-    rw (two, append_assoc out (hex_char (b / 16) ∷ hex_char (b % 16) ∷ []) rest) (ap (λ (t : List ℕ). out ++ t) (sym step) ∙ inv)
+    let step : hex_text (drop i xs) ≡ high ∷ low ∷ rest = rw (is-high, is-low) (ap hex_text (drop_more xs i 0 h)) in
+    let pushed : now ≡ (out ++ (high ∷ [])) ++ (low ∷ []) = second ∙ rw (first, one, two) in
+    rw (pushed, append_assoc (out ++ (high ∷ [])) (low ∷ []) rest, append_assoc out (high ∷ []) (low ∷ rest)) (ap (λ (t : List ℕ). out ++ t) (sym step) ∙ inv)
 
 pub text_done : (out xs : List ℕ) (i : ℕ) → length xs ≤ i → out ++ hex_text (drop i xs) ≡ hex_text xs → out ≡ hex_text xs
 text_done out xs i h inv = sym (append-nil out) ∙ rw (drop_all i xs h) at inv

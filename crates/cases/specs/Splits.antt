@@ -28,6 +28,12 @@ abbrev pub split : ℕ → List ℕ → List (List ℕ)
 split mark [] = [] ∷ []
 split mark (b ∷ bs) = cond (b == mark) ([] ∷ split mark bs) (grown b (split mark bs))
 
+-- the index of the first mark, or none where no byte is the mark
+abbrev pub FirstMark : ℕ → List ℕ → Option ℕ → Type 0
+FirstMark mark bytes None = Free mark bytes
+FirstMark mark bytes (Some i) =
+    (i < length bytes) × (slice_index bytes i ≡ mark) × ((k : ℕ) → k < i → slice_index bytes k ≢ mark)
+
 -- what a cut at the first mark gives: what stands before it, and what follows it
 abbrev pub Cuts : ℕ → List ℕ → Option (Bor (List ℕ) × Bor (List ℕ)) → Type 0
 Cuts mark bytes None = Free mark bytes

@@ -1,15 +1,14 @@
 // Bytes written as a word: `-` for none, else pieces joined by `.`. A piece is pairs of lower-case hexadecimal
 // digits, and with `*` and a count after them they are repeated: `5b.31*3` is `[111`.
-ghost use Rattle.std.specs.Prelude.{◌≡◌, ◌≤◌, ◌++◌, length, IfOk, Some, vec_items, vec_len, string_bytes};
+ghost use Rattle.std.specs.Prelude.{◌≡◌, ◌<◌, ◌≤◌, ◌++◌, length, IfOk, Some, vec_items, vec_len, string_bytes};
 ghost use Rattle.cases.specs.Splits.{split};
-ghost use Rattle.cases.specs.Bytes.{longest, both, times, hex_digit, byte_of, hex_bytes, piece_bytes, pieces_bytes, limited, bytes_of, hex_text, shown};
+ghost use Rattle.cases.specs.Bytes.{longest, both, times, hex_digit, byte_of, hex_bytes, piece_bytes, pieces_bytes, limited, bytes_of, hex_char, hex_text, shown};
 ghost use Rattle.cases.specs.Read.{Reads, Grows};
 
 use crate::fault::LineFault;
 use crate::numeral::number;
 use crate::parts::Parts;
 use std::alloc::{AllocError, Global};
-use std::fmt::Write;
 
 // At most so many bytes come of one word, so that no count leads to an endless run.
 const LONGEST: usize = 1048576;
@@ -97,13 +96,22 @@ pub fn read_bytes(heap: Global, word: &[u8]) -> Result<Vec<u8>, LineFault>
     read_pieces(heap, word)
 }
 
-// Two digits for each byte.
+// The character of a hexadecimal digit.
+fn hex_char(digit: u8) -> char
+    requires { digit < 16 }
+    ensures { (result ≡ hex_char digit) × (result < 128) }
+{
+    char::from(b"0123456789abcdef"[usize::from(digit)])
+}
+
+// Two digits for each byte. Not by `{b:02x}`, which takes several times as long.
 fn hex_text(heap: Global, bytes: &[u8]) -> Result<String, AllocError>
     ensures { IfOk result (λ s. string_bytes s ≡ hex_text bytes.now) }
 {
     let mut text = String::new(heap);
     for b in bytes {
-        write!(text, "{b:02x}")?;
+        text.push(hex_char(*b / 16))?;
+        text.push(hex_char(*b % 16))?;
     }
     Ok(text)
 }

@@ -1,7 +1,7 @@
 // Bytes parted by a mark, as words by one blank each.
 ghost use Rattle.std.specs.Prelude.{◌≡◌, ◌∷◌, drop, Decides};
 ghost use Rattle.std.specs.Iterator.{YieldsFirstRef, item_count};
-ghost use Rattle.cases.specs.Splits.{split, Parted, Cuts, parts_after};
+ghost use Rattle.cases.specs.Splits.{split, Parted, FirstMark, Cuts, parts_after};
 ghost use Rattle.cases.specs.Lefts.{parts_left};
 
 // Parts that are taken off one by one. Two marks in a row, a first or a last one have an empty part beside them,
@@ -13,13 +13,20 @@ pub struct Parts<'a> {
     mark: u8,
 }
 
+// Where the first mark stands, if there is one.
+fn first_mark(bytes: &[u8], mark: u8) -> Option<usize>
+    ensures { FirstMark mark bytes.now result }
+{
+    bytes.iter().position(|b| *b == mark)
+}
+
 // Cuts bytes at the first mark, if there is one: what stands before it is the first part, and then what follows it.
 pub fn cut(bytes: &[u8], mark: u8) -> Option<(&[u8], &[u8])>
     ensures value { Cuts mark bytes.now result }
     ensures first { split mark bytes.now ≡ parts_after mark bytes.now result }
     ensures law { Parted mark bytes.now (split mark bytes.now) }
 {
-    let i = bytes.iter().position(|b| *b == mark)?;
+    let i = first_mark(bytes, mark)?;
     Some((&bytes[..i], &bytes[i + 1..]))
 }
 

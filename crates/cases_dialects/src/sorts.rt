@@ -43,6 +43,7 @@ fn memory_for(heap: Global, count: usize) -> Result<Vec<Part>, AllocError>
 }
 
 // A case of outcomes.
+#[tactic(auto, using(crate::proofs::Telling::apart))]
 fn case_of(
     heap: Global,
     expected: Result<usize, Refused>,
@@ -141,10 +142,11 @@ fn run_match(heap: Global, words: Parts<'_>) -> Result<Case, LineFault>
     let names = take_bytes(heap, &mut rest)?;
     let masks = take_bytes(heap, &mut rest)?;
     let text = take_bytes(heap, &mut rest)?;
-    let expected = String::from_str(heap, from_utf8(take_word(&mut rest)?)?)?;
+    let bits = take_word(&mut rest)?;
     if rest.next().is_some() {
         return Err(LineFault::Unreadable);
     }
+    let expected = String::from_str(heap, from_utf8(bits)?)?;
     let came = ask(heap, names.as_slice(), masks.as_slice(), text.as_slice())?;
     Ok(Case { expected, came })
 }

@@ -3,5 +3,4 @@ mod Joining
 mod Lining
 mod Noting
 mod Reporting
-mod Spelling
 mod Same

@@ -12,13 +12,16 @@ pub enum NumberKind {
     Decimal,
 }
 
-// Takes the next word off, as a kind: `whole` or `decimal`.
+// Takes the next word off, as a kind: `whole` or `decimal`. Not a match: an arm knows its word letter by letter alone.
 pub fn take_kind(words: &mut Parts<'_>) -> Result<NumberKind, LineFault>
     ensures { TakesKind (parts_left words.old) result (parts_left words.new) }
 {
-    match take_word(words)? {
-        b"whole" => Ok(NumberKind::Whole),
-        b"decimal" => Ok(NumberKind::Decimal),
-        _ => Err(LineFault::Unreadable),
+    let word = take_word(words)?;
+    if word == b"whole".as_slice() {
+        Ok(NumberKind::Whole)
+    } else if word == b"decimal".as_slice() {
+        Ok(NumberKind::Decimal)
+    } else {
+        Err(LineFault::Unreadable)
     }
 }
