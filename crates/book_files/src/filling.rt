@@ -12,6 +12,7 @@ use lists::lent::LentList;
 use rules::row::Row;
 
 // Fills in a file's numbers, rows and definitions, up to the first field that is refused.
+#[tactic(auto, using(crate::proofs::Growing::nothing_yet, crate::proofs::Slots::none_yet))]
 pub(crate) fn fill<K: Number>(
     bytes: &[u8],
     patterns: usize,

@@ -3,18 +3,9 @@ use Rattle.std.proofs.Common.{refl, ap, arith, rules, length, length-append}
 use Rattle.std.proofs.lemmas.Result.{err_from_is_err_and}
 use Rattle.book_fields.specs.Fields.{tag_number}
 use Rattle.book_files.specs.Drafts.{file}
-use Rattle.book_files.proofs.Slots.{none_yet}
-use Rattle.book_files.proofs.Growing.{lists, nothing_yet, field_refused, number_refused, row_refused, definition_refused, took_number, took_row, took_definition, all_filled, shorter}
+use Rattle.book_files.proofs.Growing.{lists, field_refused, number_refused, row_refused, definition_refused, took_number, took_row, took_definition, all_filled, shorter}
 use Rattle.book_files.proofs.filling.fill.Goals as goal
 use Rattle.book_files.proofs.filling.fill.Goals.{in-Number+in_ok-put-in-Number, in-Row+in_ok-put-in-Row, in-Definition+in_ok-put-in-Definition}
-
-pub loop-rest-init : goal.loop-rest-init
-loop-rest-init g c =
-    let numbers = c.new-numbers.ensures in
-    let rows = c.new-rows.ensures in
-    let definitions = c.new-definitions.ensures in
-    nothing_yet (none_yet c.new-numbers.result numbers.0 numbers.1 numbers.2) (none_yet c.new-rows.result rows.0 rows.1 rows.2)
-    (none_yet c.new-definitions.result definitions.0 definitions.1 definitions.2)
 
 pub overflow_sub-place : goal.overflow_sub-place
 overflow_sub-place g c = omega (arith, ap length c.loop-rest.invariant.1.cut, length-append (file c.loop-rest.invariant.0) c.loop-rest.rest.now)
