@@ -1,10 +1,8 @@
 // Reads what stands in a field, a number, a row or a definition, and puts it behind the others.
 ghost use Rattle.std.specs.Prelude.{◌≡◌, length, nat_le};
-ghost use Rattle.kinds.specs.Causes.{outcome};
 ghost use Rattle.lists.specs.Lists.{values_of, room, Lent};
-ghost use Rattle.rows.specs.Rows.{row_of as row_from_bytes};
 ghost use Rattle.books.specs.Drafts.{limits_in};
-ghost use Rattle.book_fields.specs.Items.{with_cause, tested, body_row, if_room, Puts};
+ghost use Rattle.book_fields.specs.Items.{number_from, row_from, definition_from, if_room, Puts};
 
 use books::fault::BookFault;
 use books::limits::Limits;
@@ -14,31 +12,43 @@ use lists::lent::LentList;
 use rows::reading::read_row;
 use rules::row::Row;
 
-// The number of the token at this place.
-pub fn number_of<K: Number>(body: &[u8], place: usize) -> Result<K, BookFault>
-    ensures { result ≡ with_cause place (outcome K.Number.kind body.now) }
+// The number of the token at this place, unless the memory or the maximum is full.
+// `full` is asked for here and in the two below: each promises what a full memory is told, before the item's own fault.
+pub fn number_of<K: Number>(body: &[u8], place: usize, full: bool) -> Result<K, BookFault>
+    ensures { result ≡ number_from K.Number.kind full place body.now }
 {
-    Ok(read_number_at(body, place)?)
+    if full {
+        Err(BookFault::TooMany(place))
+    } else {
+        Ok(read_number_at(body, place)?)
+    }
 }
 
-// The row of ten bytes at this place, as row number `at` of a book within these limits.
+// The row of ten bytes at this place, as row number `at` of a book within these limits, unless the memory or the maximum is full.
 pub fn row_of<K: Number>(
     body: &[u8],
     place: usize,
+    full: bool,
     at: usize,
     limits: Limits<'_, K>,
 ) -> Result<Row, BookFault>
-    ensures { result ≡ tested (limits_in K.Number.kind limits.entry) at place (row_from_bytes body.now) }
+    ensures { result ≡ row_from (limits_in K.Number.kind limits.entry) full at place body.now }
 {
+    if full {
+        return Err(BookFault::TooMany(place));
+    }
     let row = read_row(body).ok_or(BookFault::NotAllowed(place))?;
     test_row(row, at, place, limits)?;
     Ok(row)
 }
 
-// The body row of the definition at this place, which is one of so many rows.
-pub fn definition_of(body: &[u8], place: usize, rows: usize) -> Result<u16, BookFault>
-    ensures { result ≡ body_row place rows body.now }
+// The body row of the definition at this place, which is one of so many rows, unless the memory or the maximum is full.
+pub fn definition_of(body: &[u8], place: usize, full: bool, rows: usize) -> Result<u16, BookFault>
+    ensures { result ≡ definition_from full place rows body.now }
 {
+    if full {
+        return Err(BookFault::TooMany(place));
+    }
     let [high, low] = body else {
         return Err(BookFault::WrongLength(place));
     };

@@ -16,13 +16,13 @@ use Rattle.books.specs.declared.fault.BookFault.{BookFault}
 use Rattle.books.proofs.Keeping.{both_pass, asked, row_passes}
 use Rattle.book_fields.specs.declared.field.BookField.{BookField}
 use Rattle.book_fields.specs.Fields.{field_test, is_misplaced, tag_number, TakesField, Cuts}
-use Rattle.book_fields.specs.Items.{number_from, row_from, definition_from, Puts}
+use Rattle.book_fields.specs.Items.{if_room, number_from, row_from, definition_from, Puts}
 use Rattle.book_files.specs.Drafts.{Numeral, Draft, drafted, Memory, room_of, number_fields, row_fields, definition_fields, file, numbers, body_bytes}
 use Rattle.book_files.specs.Files.{last_tag, limits, NumberFits, RowFits, BodyFits, Fits, next_test, body_test, ReadsTo}
 use Rattle.book_files.specs.Filling.{AllRead}
 use Rattle.book_files.proofs.Runs.{each_more, fields_push}
 use Rattle.book_files.proofs.Slots.{Stands, full, one_more, count_is, full_is, space, memory_is}
-use Rattle.book_files.proofs.Items.{number_read, row_read, definition_read, named_bytes, part_small}
+use Rattle.book_files.proofs.Items.{told_once, number_read, row_read, definition_read, named_bytes, part_small}
 
 -- the lists that a book is read into
 pub record Lists (K : Type 0) : Type 0 where
@@ -234,12 +234,12 @@ module _ {K : Type 0} {kind : Kind K} {patterns : ℕ} {bytes : List ℕ} {befor
             (tested_as passes begun.0 begun.1 takes.0) ∙ again)
 
       pub number_refused : (e : BookFault) → tag_number f.tag ≡ 1 →
-          number_from kind (full now.numbers) (at bytes rest) f.body.now ≡ Err e → ReadsTo kind patterns (room_of before) bytes (Err e)
+          if_room (full now.numbers) (at bytes rest) (number_from kind (full now.numbers) (at bytes rest) f.body.now) ≡ Err e → ReadsTo kind patterns (room_of before) bytes (Err e)
       number_refused e is why =
           body_refused 1 is e
           (ap (λ t. result_and t passes) (subst (λ b. number_from kind b (at bytes rest) f.body.now ≡ Err e)
           (full_is begun.1.numbers
-          ∙ ap (leb (min (length before.numbers) 1024)) (length-map begun.0.numerals (λ z. z.value))) why))
+          ∙ ap (leb (min (length before.numbers) 1024)) (length-map begun.0.numerals (λ z. z.value))) (rw (told_once _ _ _) at why)))
 
       -- a row's test, by what has been read
       row_as : (o : Result Row BookFault) → row_from (limits_of kind patterns (values_of now.numbers)) (full now.rows) (length (values_of now.rows)) (at bytes rest) f.body.now ≡ o →
@@ -249,11 +249,11 @@ module _ {K : Type 0} {kind : Kind K} {patterns : ℕ} {bytes : List ℕ} {befor
           (subst (λ ns. row_from (limits_of kind patterns ns) (full now.rows) (length (values_of now.rows)) (at bytes rest) f.body.now ≡ o) begun.1.numbers.values_are why)
 
       pub row_refused : (e : BookFault) → tag_number f.tag ≡ 2 →
-          row_from (limits_of kind patterns (values_of now.numbers)) (full now.rows) (length (values_of now.rows)) (at bytes rest) f.body.now ≡ Err e → ReadsTo kind patterns (room_of before) bytes (Err e)
+          if_room (full now.rows) (at bytes rest) (row_from (limits_of kind patterns (values_of now.numbers)) (full now.rows) (length (values_of now.rows)) (at bytes rest) f.body.now) ≡ Err e → ReadsTo kind patterns (room_of before) bytes (Err e)
       row_refused e is why =
           body_refused 2 is e
           (ap (λ t. result_and t passes) (subst (λ b. row_from (limits kind patterns begun.0) b (length begun.0.rows) (at bytes rest) f.body.now ≡ Err e)
-          (full_is begun.1.rows) (row_as (Err e) why)))
+          (full_is begun.1.rows) (row_as (Err e) (rw (told_once _ _ _) at why))))
 
       -- and a definition's
       body_as : (o : Result ℕ BookFault) → definition_from (full now.definitions) (at bytes rest) (length (values_of now.rows)) f.body.now ≡ o →
@@ -261,49 +261,49 @@ module _ {K : Type 0} {kind : Kind K} {patterns : ℕ} {bytes : List ℕ} {befor
       body_as o why = subst (λ k. definition_from (full now.definitions) (at bytes rest) k f.body.now ≡ o) (count_is begun.1.rows) why
 
       pub definition_refused : (e : BookFault) → tag_number f.tag ≡ 3 →
-          definition_from (full now.definitions) (at bytes rest) (length (values_of now.rows)) f.body.now ≡ Err e → ReadsTo kind patterns (room_of before) bytes (Err e)
+          if_room (full now.definitions) (at bytes rest) (definition_from (full now.definitions) (at bytes rest) (length (values_of now.rows)) f.body.now) ≡ Err e → ReadsTo kind patterns (room_of before) bytes (Err e)
       definition_refused e is why =
           body_refused 3 is e
           (ap (λ t. result_and t passes) (subst (λ b. definition_from b (at bytes rest) (length begun.0.rows) f.body.now ≡ Err e)
-          (full_is begun.1.bodies) (body_as (Err e) why)))
+          (full_is begun.1.bodies) (body_as (Err e) (rw (told_once _ _ _) at why))))
 
       -- what is held after a field: its item stands behind the others of its sort
       module _ (small : (i : ℕ) → get_or bytes i 0 < 256) (after : Lists K) where
         abbrev Next : Type 0
         Next = Begun kind patterns bytes before first after (tag_number f.tag) f.rest.now
 
-        pub took_number : tag_number f.tag ≡ 1 → (list : LentList K) (u : Unit {0}) → Puts (number_from kind (full now.numbers) (at bytes rest) f.body.now) now.numbers list (Ok u) → Lent now.numbers list →
+        pub took_number : tag_number f.tag ≡ 1 → (list : LentList K) (u : Unit {0}) → Puts (if_room (full now.numbers) (at bytes rest) (number_from kind (full now.numbers) (at bytes rest) f.body.now)) now.numbers list (Ok u) → Lent now.numbers list →
             after ≡ lists list now.rows now.definitions → Next
         took_number is list u puts lent e =
             let d = begun.0 in
             rw (e, is) (
               _,
               grow_number d.numerals d.rows d.bodies begun.1 f.body.now f.rest.now puts.0 list (here 1 is)
-                  (subst (λ t. is_misplaced t 1 ≡ false) begun.1.tagged (placed 1 is)) puts.1
+                  (subst (λ t. is_misplaced t 1 ≡ false) begun.1.tagged (placed 1 is)) (rw (told_once _ _ _) at puts.1)
                   (one_more begun.1.numbers puts.0 list puts.2 puts.3 lent),
             )
 
         pub took_row : tag_number f.tag ≡ 2 → (list : LentList Row) (u : Unit {0}) →
-            Puts (row_from (limits_of kind patterns (values_of now.numbers)) (full now.rows) (length (values_of now.rows)) (at bytes rest) f.body.now) now.rows list (Ok u) → Lent now.rows list →
+            Puts (if_room (full now.rows) (at bytes rest) (row_from (limits_of kind patterns (values_of now.numbers)) (full now.rows) (length (values_of now.rows)) (at bytes rest) f.body.now)) now.rows list (Ok u) → Lent now.rows list →
             after ≡ lists now.numbers list now.definitions → Next
         took_row is list u puts lent e =
             let d = begun.0 in
             rw (e, is) (
               _,
               grow_row d.numerals d.rows d.bodies begun.1 f.body.now f.rest.now puts.0 list (here 2 is) (small_body 2 is small)
-                  (subst (λ t. is_misplaced t 2 ≡ false) begun.1.tagged (placed 2 is)) (row_as (Ok puts.0) puts.1)
+                  (subst (λ t. is_misplaced t 2 ≡ false) begun.1.tagged (placed 2 is)) (row_as (Ok puts.0) (rw (told_once _ _ _) at puts.1))
                   (one_more begun.1.rows puts.0 list puts.2 puts.3 lent),
             )
 
         pub took_definition : tag_number f.tag ≡ 3 → (list : LentList ℕ) (u : Unit {0}) →
-            Puts (definition_from (full now.definitions) (at bytes rest) (length (values_of now.rows)) f.body.now) now.definitions list (Ok u) → Lent now.definitions list →
+            Puts (if_room (full now.definitions) (at bytes rest) (definition_from (full now.definitions) (at bytes rest) (length (values_of now.rows)) f.body.now)) now.definitions list (Ok u) → Lent now.definitions list →
             after ≡ lists now.numbers now.rows list → Next
         took_definition is list u puts lent e =
             let d = begun.0 in
             rw (e, is) (
               _,
               grow_body d.numerals d.rows d.bodies begun.1 f.body.now f.rest.now puts.0 list (here 3 is) (small_body 3 is small)
-                  (body_as (Ok puts.0) puts.1)
+                  (body_as (Ok puts.0) (rw (told_once _ _ _) at puts.1))
                   (one_more begun.1.bodies puts.0 list puts.2 puts.3 lent),
             )
 

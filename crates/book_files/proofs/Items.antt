@@ -22,6 +22,11 @@ roomy : {A : Type 0} (full : Bool) (place : ℕ) (r : Result A BookFault) (x : A
 roomy true place r x h = refused (TooMany place) x h
 roomy false place r x h = (refl, h)
 
+-- to be told twice that there is no room is to be told it once
+pub told_once : {A : Type 0} (full : Bool) (place : ℕ) (r : Result A BookFault) → if_room full place (if_room full place r) ≡ if_room full place r
+told_once true place r = refl
+told_once false place r = refl
+
 caused : {K : Type 0} (place : ℕ) (r : Result K Cause) (x : K) → with_cause place r ≡ Ok x → r ≡ Ok x
 caused place (Ok y) x h = let same : y ≡ x = cc in ap Ok same
 caused place (Err cause) x h = let z : ◌≡◌ {A = ℕ} 0 1 = cc in absurd (omega arith)

@@ -12,6 +12,7 @@ use lists::lent::LentList;
 use rules::row::Row;
 
 // Fills in a file's numbers, rows and definitions, up to the first field that is refused.
+#[tactic(auto, using(crate::proofs::Growing::nothing_yet, crate::proofs::Slots::none_yet))]
 pub(crate) fn fill<K: Number>(
     bytes: &[u8],
     patterns: usize,
@@ -31,17 +32,20 @@ pub(crate) fn fill<K: Number>(
         let place = bytes.len() - rest.len();
         let field = next_field(rest, u8::from(last), place)?;
         match field.tag {
-            Tag::Number => put(&mut numbers, place, number_of(field.body, place))?,
+            Tag::Number => {
+                let number = number_of(field.body, place, numbers.is_full());
+                put(&mut numbers, place, number)?;
+            }
             Tag::Row => {
                 let limits = Limits {
                     numbers: numbers.as_slice(),
                     patterns,
                 };
-                let row = row_of(field.body, place, rows.len(), limits);
+                let row = row_of(field.body, place, rows.is_full(), rows.len(), limits);
                 put(&mut rows, place, row)?;
             }
             Tag::Definition => {
-                let row = definition_of(field.body, place, rows.len());
+                let row = definition_of(field.body, place, definitions.is_full(), rows.len());
                 put(&mut definitions, place, row)?;
             }
         }

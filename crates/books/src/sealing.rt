@@ -1,7 +1,9 @@
 // Tests whole books.
-ghost use Rattle.std.specs.Prelude.{◌≡◌};
+ghost use Rattle.std.specs.Prelude.{◌≡◌, not, length, ◌==◌};
 ghost use Rattle.books.specs.Drafts.{drafted, limits_in};
 ghost use Rattle.books.specs.Sealing.{plain_test, ComesTo, Only, Seals};
+ghost use Rattle.books.specs.Tests.{ask};
+ghost use Rattle.books.specs.declared.fault.BookFault.TheVariants.{NoDefinition};
 
 use crate::draft::Draft;
 use crate::fault::BookFault;
@@ -9,6 +11,13 @@ use crate::joined::JoinedDraft;
 use crate::limits::{Limits, MOST_NUMBERS};
 use crate::parts::{ensure, test_counted_row, test_definition, test_each, test_variable};
 use kinds::number::Number;
+
+// Tests that there is a definition.
+fn test_defined(draft: Draft<'_>) -> Result<(), BookFault>
+    ensures { result ≡ ask (not (length draft.entry.definitions.now == 0)) (NoDefinition 0) }
+{
+    ensure(!draft.definitions.is_empty(), BookFault::NoDefinition(0))
+}
 
 // Tests the numbers, the rows and the definitions of a book, and that what they name is there.
 fn test_parts<K: Number>(draft: Draft<'_>, limits: Limits<'_, K>) -> Result<(), BookFault>
@@ -23,7 +32,7 @@ fn test_parts<K: Number>(draft: Draft<'_>, limits: Limits<'_, K>) -> Result<(), 
         draft.definitions,
         |k, body| test_definition(body, k, draft.rows.len()),
     )?;
-    ensure(!draft.definitions.is_empty(), BookFault::NoDefinition(0))?;
+    test_defined(draft)?;
     test_each(
         draft.rows,
         |at, row| test_variable(row, draft.definitions.len(), at),

@@ -3,18 +3,9 @@ use Rattle.std.proofs.Common.{refl, ap, arith, rules, length, length-append}
 use Rattle.std.proofs.lemmas.Result.{err_from_is_err_and}
 use Rattle.book_fields.specs.Fields.{tag_number}
 use Rattle.book_files.specs.Drafts.{file}
-use Rattle.book_files.proofs.Slots.{none_yet}
-use Rattle.book_files.proofs.Growing.{lists, nothing_yet, field_refused, number_refused, row_refused, definition_refused, took_number, took_row, took_definition, all_filled, shorter}
+use Rattle.book_files.proofs.Growing.{lists, field_refused, number_refused, row_refused, definition_refused, took_number, took_row, took_definition, all_filled, shorter}
 use Rattle.book_files.proofs.filling.fill.Goals as goal
 use Rattle.book_files.proofs.filling.fill.Goals.{in-Number+in_ok-put-in-Number, in-Row+in_ok-put-in-Row, in-Definition+in_ok-put-in-Definition}
-
-pub loop-rest-init : goal.loop-rest-init
-loop-rest-init g c =
-    let numbers = c.new-numbers.ensures in
-    let rows = c.new-rows.ensures in
-    let definitions = c.new-definitions.ensures in
-    nothing_yet (none_yet c.new-numbers.result numbers.0 numbers.1 numbers.2) (none_yet c.new-rows.result rows.0 rows.1 rows.2)
-    (none_yet c.new-definitions.result definitions.0 definitions.1 definitions.2)
 
 pub overflow_sub-place : goal.overflow_sub-place
 overflow_sub-place g c = omega (arith, ap length c.loop-rest.invariant.1.cut, length-append (file c.loop-rest.invariant.0) c.loop-rest.rest.now)
@@ -30,7 +21,7 @@ returns-in_err-put-in-Number g c =
     let taken = c.in_ok-field.ensures in
     rw (p.1, p.2)
     (number_refused c.loop-rest.invariant (search rules) c.in_ok-field.field (rw c.from.ensures at taken.takes) taken.cuts
-    c.in_err-put-in-Number.field-0.0 (ap tag_number c.in-Number.is) (rw c.number_of.ensures at c.in_err-put-in-Number.ensures.puts.0))
+    c.in_err-put-in-Number.field-0.0 (ap tag_number c.in-Number.is) (rw (c.number_of-number.ensures, c.is_full.ensures) at c.in_err-put-in-Number.ensures.puts.0))
 
 pub returns-in_err-put-in-Row : goal.returns-in_err-put-in-Row
 returns-in_err-put-in-Row g c =
@@ -38,7 +29,7 @@ returns-in_err-put-in-Row g c =
     let taken = c.in_ok-field.ensures in
     rw (p.1, p.2)
     (row_refused c.loop-rest.invariant (search rules) c.in_ok-field.field (rw c.from.ensures at taken.takes) taken.cuts
-    c.in_err-put-in-Row.field-0.0 (ap tag_number c.in-Row.is) (rw (c.row_of-row.ensures, c.as_slice.ensures, c.len.ensures) at c.in_err-put-in-Row.ensures.puts.0))
+    c.in_err-put-in-Row.field-0.0 (ap tag_number c.in-Row.is) (rw (c.row_of-row.ensures, c.as_slice.ensures, c.is_full-in-Row.ensures, c.len.ensures) at c.in_err-put-in-Row.ensures.puts.0))
 
 pub returns-in_err-put-in-Definition : goal.returns-in_err-put-in-Definition
 returns-in_err-put-in-Definition g c =
@@ -46,7 +37,7 @@ returns-in_err-put-in-Definition g c =
     let taken = c.in_ok-field.ensures in
     rw (p.1, p.2)
     (definition_refused c.loop-rest.invariant (search rules) c.in_ok-field.field (rw c.from.ensures at taken.takes) taken.cuts
-    c.in_err-put-in-Definition.field-0.0 (ap tag_number c.in-Definition.is) (rw (c.definition_of-row.ensures, c.len-in-Definition.ensures) at c.in_err-put-in-Definition.ensures.puts.0))
+    c.in_err-put-in-Definition.field-0.0 (ap tag_number c.in-Definition.is) (rw (c.definition_of-row.ensures, c.is_full-in-Definition.ensures, c.len-in-Definition.ensures) at c.in_err-put-in-Definition.ensures.puts.0))
 
 pub loop-rest-preserved : goal.loop-rest-preserved
 loop-rest-preserved g c =
@@ -55,12 +46,12 @@ loop-rest-preserved g c =
     let after = lists c.match-field.numbers c.match-field.rows c.match-field.definitions in
     elim c.match-field.branch [
       | in-Number+in_ok-put-in-Number w ↦ took_number c.loop-rest.invariant (search rules) field (rw c.from.ensures at taken.takes) taken.cuts (λ i. omega (arith, c.type_inv.bytes i)) after
-          (ap tag_number w.in-Number.is) _ _ (rw w.number_of.ensures at w.in_ok-put-in-Number.ensures.puts) w.put.ensures.lent (rw (w.numbers-is, w.rows-is, w.definitions-is) refl)
+          (ap tag_number w.in-Number.is) _ _ (rw (w.number_of-number.ensures, w.is_full.ensures) at w.in_ok-put-in-Number.ensures.puts) w.put.ensures.lent (rw (w.numbers-is, w.rows-is, w.definitions-is) refl)
       | in-Row+in_ok-put-in-Row w ↦ took_row c.loop-rest.invariant (search rules) field (rw c.from.ensures at taken.takes) taken.cuts (λ i. omega (arith, c.type_inv.bytes i)) after
-          (ap tag_number w.in-Row.is) _ _ (rw (w.row_of-row.ensures, w.as_slice.ensures, w.len.ensures) at w.in_ok-put-in-Row.ensures.puts) w.put-in-Row.ensures.lent
+          (ap tag_number w.in-Row.is) _ _ (rw (w.row_of-row.ensures, w.as_slice.ensures, w.is_full-in-Row.ensures, w.len.ensures) at w.in_ok-put-in-Row.ensures.puts) w.put-in-Row.ensures.lent
           (rw (w.numbers-is, w.rows-is, w.definitions-is) refl)
       | in-Definition+in_ok-put-in-Definition w ↦ took_definition c.loop-rest.invariant (search rules) field (rw c.from.ensures at taken.takes) taken.cuts (λ i. omega (arith, c.type_inv.bytes i)) after
-          (ap tag_number w.in-Definition.is) _ _ (rw (w.definition_of-row.ensures, w.len-in-Definition.ensures) at w.in_ok-put-in-Definition.ensures.puts) w.put-in-Definition.ensures.lent
+          (ap tag_number w.in-Definition.is) _ _ (rw (w.definition_of-row.ensures, w.is_full-in-Definition.ensures, w.len-in-Definition.ensures) at w.in_ok-put-in-Definition.ensures.puts) w.put-in-Definition.ensures.lent
           (rw (w.numbers-is, w.rows-is, w.definitions-is) refl)
     ]
 
