@@ -1,6 +1,7 @@
 // Writes the cleared book into lent memory.
 ghost use Rattle.std.specs.Prelude.{◌≡◌, ◌+◌, ◌≤◌, length};
 ghost use Rattle.std.proofs.Math.Seq.{paste};
+ghost use Rattle.rules.specs.Clear.{look_up};
 ghost use Rattle.clearing.specs.Writing.{bodies, written_over, Writable, WrittenRows};
 
 use crate::adding::{adds, place_of};
@@ -38,6 +39,15 @@ pub(crate) fn write_rows(rows: &[Row], d: u16, out: &mut [Row], places: &mut [Pl
     }
 }
 
+// The row that a body goes to, and the one that its complement goes to.
+fn body_rows(places: &[Place], body: u16) -> (u16, u16)
+    ensures positive { result.0 ≡ (look_up places.now body).positive }
+    ensures negative { result.1 ≡ (look_up places.now body).negative }
+{
+    let place = place_of(places, body);
+    (place.positive, place.negative)
+}
+
 // Writes the bodies of the definitions, and after them those of their complements, by the places of their bodies.
 pub(crate) fn write_bodies(definitions: &[u16], places: &[Place], out: &mut [u16])
     requires { length definitions.now + length definitions.now ≤ length out.old }
@@ -46,8 +56,8 @@ pub(crate) fn write_bodies(definitions: &[u16], places: &[Place], out: &mut [u16
     let (bodies, complements) = out.split_at_mut(definitions.len());
     // by index, as a proof knows nothing of what is written through a `zip` of `iter_mut`
     for (k, body) in definitions.iter().enumerate() {
-        let place = place_of(places, *body);
-        bodies[k] = place.positive;
-        complements[k] = place.negative;
+        let (positive, negative) = body_rows(places, *body);
+        bodies[k] = positive;
+        complements[k] = negative;
     }
 }

@@ -10,7 +10,7 @@ ghost use Rattle.kinds.specs.Laws.{decimal_laws};
 use crate::integer::{is_multiple, signed};
 use crate::number::Number;
 use crate::token::{number_of, take_apart};
-use crate::writing::{fraction_length, minus, pointed, write_parts};
+use crate::writing::{fraction_length, minus, minus_length, pointed, write_parts};
 use itoa::Buffer;
 use std::cmp::Ordering;
 
@@ -70,7 +70,7 @@ impl Number for Decimal {
 
     fn token_length(self) -> usize {
         let ones = self.millionths.unsigned_abs() / MILLION;
-        minus(self.millionths).len()
+        minus_length(self.millionths)
             + Buffer::new().format(ones).len()
             + fraction_length(self.places)
     }

@@ -10,6 +10,13 @@ pub(crate) fn minus(z: i64) -> &'static str
     if z < 0 { "-" } else { "" }
 }
 
+// How many bytes the minus of a number has.
+pub(crate) fn minus_length(z: i64) -> usize
+    ensures { result ≡ length (minus_of z) }
+{
+    minus(z).len()
+}
+
 // The last digit of a number.
 fn last_digit(n: u64) -> u8
     ensures { result ≡ 48 + n % 10 }

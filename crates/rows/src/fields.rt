@@ -1,5 +1,5 @@
 // The fields of a row as its ten bytes hold them.
-ghost use Rattle.std.specs.Prelude.{◌≡◌};
+ghost use Rattle.std.specs.Prelude.{◌≡◌, ◌+◌, ◌*◌};
 ghost use Rattle.rows.specs.Fields.{range_ends, bounds_ends, ends_from, fields_from, ReadsFields};
 
 use rules::row::{Bounds, Range};
@@ -56,6 +56,13 @@ fn ends_of(present: u8, lower: u16, upper: u16) -> Option<Ends>
     Some(Ends { lower, upper })
 }
 
+// The number of two bytes.
+fn word(high: u8, low: u8) -> u16
+    ensures { result ≡ high * 256 + low }
+{
+    u16::from_be_bytes([high, low])
+}
+
 // The fields that ten bytes hold, if they are ten and the ends agree with the byte that tells of them.
 pub(crate) fn fields_of(bytes: &[u8]) -> Option<Fields>
     ensures is { result ≡ fields_from bytes.now }
@@ -64,12 +71,10 @@ pub(crate) fn fields_of(bytes: &[u8]) -> Option<Fields>
     let [operator, present, a, b, c, d, e, f, g, h] = bytes else {
         return None;
     };
-    let lower = u16::from_be_bytes([*e, *f]);
-    let upper = u16::from_be_bytes([*g, *h]);
     Some(Fields {
         operator: *operator,
-        first: u16::from_be_bytes([*a, *b]),
-        second: u16::from_be_bytes([*c, *d]),
-        ends: ends_of(*present, lower, upper)?,
+        first: word(*a, *b),
+        second: word(*c, *d),
+        ends: ends_of(*present, word(*e, *f), word(*g, *h))?,
     })
 }

@@ -8,4 +8,4 @@ pub returns-clause-holds : goal.returns-clause-holds
 returns-clause-holds c =
     let bs = c.args.bytes.now in
     let found : ends_from (get_or bs 1 0) (get_or bs 6 0 * 256 + get_or bs 7 0) (get_or bs 8 0 * 256 + get_or bs 9 0) ≡ Some c.in_ok-ends_of.field-0 = search rules in
-    fields_written bs _ (search rules) (λ i. omega (arith, c.type_inv.bytes i)) refl c.from_be_bytes.ensures c.from_be_bytes-2.ensures (ends_written _ _ _ _ found)
+    fields_written bs _ (search rules) (λ i. omega (arith, c.type_inv.bytes i)) refl c.word.ensures c.word-2.ensures (ends_written _ _ _ _ found)

@@ -14,7 +14,7 @@ returns c =
     omega (
       arith,
       length_written (as_fixed c.args.self),
-      ap length c.minus.ensures ∙ ap (λ v. length (minus_of v)) same,
+      c.minus_length.ensures ∙ ap (λ v. length (minus_of v)) same,
       ap length c.format.ensures.text ∙ ap (λ n. length (decimal (n / 10 ^ 6))) (c.unsigned_abs-ones.ensures.value ∙ ap nat_abs same),
       length_fraction c.args.self.places c.fraction_length.result part (c.fraction_length.ensures.is part) c.fraction_length.ensures.few,
     )
