@@ -7,6 +7,7 @@ use books::parts::number_at;
 use kinds::number::Number;
 use std::alloc::{AllocError, Global};
 use std::fmt::Display;
+use std::io::Write;
 
 // What is written so far, and the book's numbers.
 #[derive(Drop)]
@@ -21,8 +22,8 @@ impl<K: Number> Page<'_, K> {
     pub(crate) fn write_fmt<D: Display + Drop>(&mut self, text: D) -> Result<(), AllocError>
         ensures { OnOk result (IfSome (D.output text) (Adds self.old self.new)) }
     {
-        let text = String::format(self.heap, text)?;
-        self.text.extend_from_slice(text.as_bytes())
+        // nothing but memory can be short, since the page is memory
+        Write::write_fmt(&mut self.text, text).map_err(|_| AllocError)
     }
 
     // These words, and then number i of the book.

@@ -91,9 +91,11 @@ fn lowest_call(rows: &[Row], definition: usize, marks: &[bool]) -> Option<usize>
     requires { length rows.now ≤ length marks.now }
     ensures { FirstCall rows.now definition marks.now result }
 {
-    rows.iter()
-        .zip(marks)
-        .position(|(row, marked)| *marked && calls(*row, definition))
+    // the marks first: few rows are marked, and of the others nothing has to be read
+    marks
+        .iter()
+        .zip(rows)
+        .position(|(marked, row)| *marked && calls(*row, definition))
 }
 
 // The lower of two rows that may be there.
@@ -107,20 +109,21 @@ fn lower(one: Option<usize>, other: Option<usize>) -> Option<usize>
 }
 
 impl JoinedDraft<'_> {
+    ghost use Rattle.books.specs.Spread.{seen, Fresh};
+
     // Marks a row and all that it needs. Each row waits at most once, so it ends within as many turns as there are rows.
-    fn reached(self, start: u16) -> [bool; MOST_ROWS]
-        requires { start < length self.draft.rows.now }
-        ensures { Marked (drafted self.entry.draft) start result }
+    // The search is lent, since its tables are large to hand over.
+    fn mark_reached(self, start: u16, search: &mut Search)
+        requires { (start < length self.draft.rows.now) × Fresh 2048 (seen search.old) }
+        ensures { Marked (drafted self.entry.draft) start search.new.marks }
     {
         let Draft { rows, definitions } = self.draft;
-        let mut search = Search::new();
         search.visit(start);
         while let Some(at) = search.pop() {
             let [first, second] = direct_needs(rows[usize::from(at)], definitions);
             search.visit_any(first);
             search.visit_any(second);
         }
-        search.marks
     }
 
     // The lowest variable of this definition that needs itself.
@@ -129,8 +132,9 @@ impl JoinedDraft<'_> {
         requires { definition < length self.draft.definitions.now }
         ensures { FirstCycle (drafted self.entry.draft) definition result }
     {
-        let marks = self.reached(self.draft.definitions[definition]);
-        lowest_call(self.draft.rows, definition, &marks)
+        let mut search = Search::new();
+        self.mark_reached(self.draft.definitions[definition], &mut search);
+        lowest_call(self.draft.rows, definition, &search.marks)
     }
 
     // The lowest row that needs itself, if one does. Such a row is a variable: any other needs only rows below it,

@@ -15,7 +15,4 @@ pub trait Dialect {
     // Whether a string is in the set of a pattern; past the count no set holds any.
     fn is_match(&self, pattern: usize, text: &[u8]) -> bool
         ensures { result ≡ answer (count self.now) (holds self.now) pattern text.now };
-
-    // no dialect has more patterns than two bytes can number
-    ghost few: { (d : Self) → count d ≤ 65535 };
 }

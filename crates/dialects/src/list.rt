@@ -1,7 +1,6 @@
 // Patterns by number, as they stand in a file.
 ghost use Rattle.std.specs.Prelude.{◌≡◌};
 ghost use Rattle.dialects.specs.Dialects.{part_count, listed_holds, Finds};
-ghost use Rattle.std.proofs.Common.{rules};
 
 use crate::dialect::Dialect;
 use crate::limits::MOST_PATTERNS;
@@ -50,8 +49,6 @@ impl<'a, S: Syntax> Dialect for PatternList<'a, S> {
     ghost count = { λ d. part_count d.parts.now };
 
     ghost holds = { λ d. listed_holds S.Syntax.matched d.file.now d.parts.now };
-
-    ghost few = { λ d. Prim.search rules };
 
     fn pattern_count(&self) -> usize {
         self.count()

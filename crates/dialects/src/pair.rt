@@ -1,6 +1,5 @@
 // Two dialects side by side.
 ghost use Rattle.dialects.specs.Dialects.{pair_count, pair_holds};
-ghost use Rattle.std.proofs.Common.{rules};
 
 use crate::dialect::Dialect;
 use crate::limits::MOST_PATTERNS;
@@ -16,8 +15,6 @@ impl<F: Dialect, S: Dialect> Dialect for Pair<F, S> {
     ghost count = { λ d. pair_count (F.Dialect.count d.first) (S.Dialect.count d.second) };
 
     ghost holds = { λ d. pair_holds (F.Dialect.count d.first) (F.Dialect.holds d.first) (S.Dialect.holds d.second) };
-
-    ghost few = { λ d. Prim.search rules };
 
     fn pattern_count(&self) -> usize {
         (self.first.pattern_count() + self.second.pattern_count()).min(MOST_PATTERNS)

@@ -4,7 +4,7 @@ use Rattle.std.proofs.lemmas.List.{map-id, append_assoc}
 use Rattle.std.specs.List.{flat_map, filter, range_with_len}
 use Rattle.std.proofs.lemmas.List.FromFn.{filter_of_map_range_with_len_more}
 use Rattle.lines.specs.Lines.{lines}
-use Rattle.patterns.specs.Report.{passing, numbers_shown, line, report}
+use Rattle.patterns.specs.Report.{passing, line, report}
 
 -- the numbers that pass are those that a filter leaves
 pub filter_passing : (test : ℕ → Bool) (n : ℕ) → filter test (range_with_len 0 n) ≡ passing test n
@@ -12,11 +12,6 @@ filter_passing test zero = refl
 filter_passing test (suc n) =
     let more = simp map-id at (filter_of_map_range_with_len_more test (λ k. k) 0 n n (zero-add n)) in
     ap (λ k. filter test (range_with_len 0 k)) (sym (add-one n)) ∙ more ∙ ap (λ ks. ks ++ cond (test n) (n ∷ []) []) (filter_passing test n)
-
--- a line put together from its parts
-pub line_parts : (out texted lined text shown numbers : List ℕ) → texted ≡ out ++ text → lined ≡ texted ++ shown → shown ≡ 58 ∷ (numbers_shown numbers ++ 10 ∷ []) →
-    lined ≡ out ++ line text numbers
-line_parts out texted lined text shown numbers p q r = q ∙ rw (p, r) (append_assoc out text (58 ∷ (numbers_shown numbers ++ 10 ∷ [])))
 
 -- a line more is printed, and the rest of the input is shorter by it
 pub report_more : (count : ℕ) (test : ℕ → List ℕ → Bool) (whole out longer rest text more numbers : List ℕ) → lines rest ≡ text ∷ lines more →

@@ -1,7 +1,7 @@
 // The lines that the program prints.
-ghost use Rattle.std.specs.Prelude.{◌≡◌, IfOk, Some};
+ghost use Rattle.std.specs.Prelude.{◌≡◌, ◌++◌, IfOk, OnOk, Some};
 ghost use Rattle.dialects.specs.Dialects.{answer};
-ghost use Rattle.patterns.specs.Report.{passing, numbers_shown, report as report_of};
+ghost use Rattle.patterns.specs.Report.{passing, numbers_shown, line as line_of, report as report_of};
 
 use dialects::dialect::Dialect;
 use lines::Lines;
@@ -36,6 +36,23 @@ impl fmt::Display for Numbers {
     }
 }
 
+// Puts the line of a text at the end. Where no pattern matches, as for most texts, there is nothing to format, so nothing is.
+fn add_line(
+    out: &mut Vec<u8>,
+    heap: Global,
+    text: &[u8],
+    numbers: Numbers,
+) -> Result<(), AllocError>
+    ensures { OnOk result (out.new.items ≡ out.old.items ++ line_of text.now numbers.0.items) }
+{
+    out.extend_from_slice(text)?;
+    if numbers.0.is_empty() {
+        return out.extend_from_slice(b": none\n");
+    }
+    let shown = format!(in heap; ":{numbers}\n")?;
+    out.extend_from_slice(shown.as_bytes())
+}
+
 // The lines of all texts of an input, one text to a line.
 pub(crate) fn report<D: Dialect>(
     heap: Global,
@@ -47,9 +64,7 @@ pub(crate) fn report<D: Dialect>(
     let mut out = Vec::new(heap);
     for text in Lines::of(input) {
         let numbers = Numbers(matching(heap, dialect, text)?);
-        let shown = format!(in heap; ":{numbers}\n")?;
-        out.extend_from_slice(text)?;
-        out.extend_from_slice(shown.as_bytes())?;
+        add_line(&mut out, heap, text, numbers)?;
     }
     Ok(out)
 }

@@ -6,15 +6,15 @@ use Rattle.books.specs.Guard.{Marked}
 use Rattle.books.specs.Spread.{seen, top, Spreading}
 use Rattle.books.proofs.Needing.{defined_at, needs_at}
 use Rattle.books.proofs.Spreads.{started, all_marked, top_inside, turn}
-use Rattle.books.proofs.joined.JoinedDraft.reached.Goals as goal
+use Rattle.books.proofs.joined.JoinedDraft.mark_reached.Goals as goal
 
 pub visit-requires : goal.visit-requires
-visit-requires c = (started (drafted c.args.self.draft) c.args.start 2048 (seen c.new-search.result) c.requires c.args.self.joined.few c.new-search.ensures).0
+visit-requires c = (started (drafted c.args.self.draft) c.args.start 2048 (seen c.args.search.now) c.requires.0 c.args.self.joined.few c.requires.1).0
 
 pub loop-at-init : goal.loop-at-init
 loop-at-init c =
     subst (Spreading (drafted c.args.self.draft) c.args.start []) (sym c.visit.ensures)
-    (started (drafted c.args.self.draft) c.args.start 2048 (seen c.new-search.result) c.requires c.args.self.joined.few c.new-search.ensures).1
+    (started (drafted c.args.self.draft) c.args.start 2048 (seen c.args.search.now) c.requires.0 c.args.self.joined.few c.requires.1).1
 
 pub direct_needs-requires : goal.direct_needs-requires
 direct_needs-requires c =
