@@ -151,6 +151,13 @@ fn run_match(heap: Global, words: Parts<'_>) -> Result<Case, LineFault>
     Ok(Case { expected, came })
 }
 
+// In the order of the report.
+const SORTS: [PatternSort; 3] = [
+    PatternSort::File(FileSort::Names),
+    PatternSort::File(FileSort::Masks),
+    PatternSort::Match,
+];
+
 impl Sort for PatternSort {
     ghost sorts = { sorts };
 
@@ -158,12 +165,12 @@ impl Sort for PatternSort {
 
     ghost comes = { Comes };
 
-    fn all<'a>() -> &'a [PatternSort] {
-        &[
-            PatternSort::File(FileSort::Names),
-            PatternSort::File(FileSort::Masks),
-            PatternSort::Match,
-        ]
+    fn count() -> usize {
+        SORTS.len()
+    }
+
+    fn at(place: usize) -> Option<PatternSort> {
+        SORTS.get(place).copied()
     }
 
     fn name(self) -> &'static str {

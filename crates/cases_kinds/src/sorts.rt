@@ -59,6 +59,9 @@ impl KindSort {
     }
 }
 
+// In the order of the report.
+const SORTS: [KindSort; 2] = [KindSort::Number, KindSort::Compare];
+
 impl Sort for KindSort {
     ghost sorts = { sorts };
 
@@ -66,8 +69,12 @@ impl Sort for KindSort {
 
     ghost comes = { Comes };
 
-    fn all<'a>() -> &'a [KindSort] {
-        &[KindSort::Number, KindSort::Compare]
+    fn count() -> usize {
+        SORTS.len()
+    }
+
+    fn at(place: usize) -> Option<KindSort> {
+        SORTS.get(place).copied()
     }
 
     fn name(self) -> &'static str {

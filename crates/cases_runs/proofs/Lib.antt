@@ -1,4 +1,3 @@
-mod Finding
 mod Joining
 mod Lining
 mod Noting

@@ -30,7 +30,7 @@ pub struct Report {
 fn name_at<S: Sort>(place: usize) -> &'static str
     ensures { result.now ≡ name_at S.Sort.sorts S.Sort.word place }
 {
-    S::all().get(place).map_or("unread", |sort| sort.name())
+    S::at(place).map_or("unread", |sort| sort.name())
 }
 
 // Adds the lines of all places.
@@ -59,7 +59,7 @@ impl Report {
         ensures { IfOk result (λ r. (vec_items r.tallies ≡ replicate (length S.Sort.sorts + 1) no_cases) × (string_bytes r.text ≡ [])) }
     {
         Ok(Report {
-            tallies: vec![in heap; Tally::new(); S::all().len() + 1]?,
+            tallies: vec![in heap; Tally::new(); S::count() + 1]?,
             text: String::new(heap),
         })
     }
@@ -97,7 +97,7 @@ impl Report {
     pub(crate) fn note_unread<S: Sort>(&mut self, number: usize) -> Result<(), AllocError>
         ensures { OnOk result (NotesUnread (length S.Sort.sorts) number (vec_items self.old.tallies) (string_bytes self.old.text) (vec_items self.new.tallies) (string_bytes self.new.text)) }
     {
-        self.count(S::all().len(), true);
+        self.count(S::count(), true);
         writeln!(self.text, "line {number} can't be read")
     }
 

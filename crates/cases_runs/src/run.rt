@@ -3,7 +3,8 @@ ghost use Rattle.std.specs.Prelude.{IfSome, IfOk, vec_items, string_bytes, Decid
 ghost use Rattle.cases_runs.specs.Runs.{Remark, Steps, Reports};
 ghost use Rattle.cases_runs.specs.Places.{Names, RanOf};
 
-use crate::report::{Ran, Report};
+pub use crate::report::Ran;
+use crate::report::Report;
 use crate::sort::Sort;
 use crate::words::{take_number, take_word};
 use cases::fault::LineFault;
@@ -15,11 +16,14 @@ use std::alloc::Global;
 fn sort_of<S: Sort>(name: &[u8]) -> Option<(usize, S)>
     ensures { IfSome result (λ p. Names S.Sort.sorts S.Sort.word name.now p.0 p.1) }
 {
-    S::all()
-        .iter()
-        .copied()
-        .enumerate()
-        .find(|(_, sort)| sort.name().as_bytes() == name)
+    for place in 0..S::count() {
+        if let Some(sort) = S::at(place)
+            && sort.name().as_bytes() == name
+        {
+            return Some((place, sort));
+        }
+    }
+    None
 }
 
 // Runs the case of a line: `SORT NUMBER TAG ..`. The tag is of no account here.

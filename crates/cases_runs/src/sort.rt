@@ -1,5 +1,6 @@
 // The sorts of case that a program runs.
 ghost use Rattle.std.specs.Prelude.{◌≡◌, ℕ, ◌<◌, not, List, length, IfOk, string_bytes, Decides};
+ghost use Rattle.std.specs.List.{slice_get};
 ghost use Rattle.cases.specs.Lefts.{parts_left};
 
 use cases::fault::LineFault;
@@ -32,11 +33,13 @@ pub trait Sort: Sized + Copy {
     // what is expected and what comes, of the words after the tag
     ghost comes: { Self → List (List ℕ) → List ℕ → List ℕ → Type 0 };
 
-    // All the sorts.
-    fn all<'a>() -> &'a [Self]
-    where
-        Self: 'a,
-        ensures { (result.now ≡ sorts) × (length result.now < 256) };
+    // How many sorts there are. No slice of them: a program may work a sort out from its place.
+    fn count() -> usize
+        ensures { (result ≡ length sorts) × (result < 256) };
+
+    // The sort at a place of the report.
+    fn at(place: usize) -> Option<Self>
+        ensures { result ≡ slice_get sorts place };
 
     // The first word of its lines.
     fn name(self) -> &'static str
