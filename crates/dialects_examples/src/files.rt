@@ -4,6 +4,11 @@ use dialects::reading::{read_masks, read_names};
 use faults::{Layer, Refusal};
 use fields::part::Part;
 
+const NOTHING: Part = Part {
+    start: 0,
+    length: 0,
+};
+
 const UNTOUCHED: Part = Part {
     start: 9,
     length: 9,
@@ -71,9 +76,9 @@ fn a_refused_file_leaves_nothing(rt: HostRuntime) {
     let mut parts = [UNTOUCHED; 3];
     let read = read_names(b"\x04\x00\x03Ulm\x05\x00\x00", &mut parts);
     assert!(rt; read.is_err());
-    assert_eq!(rt; parts[0], Part::default());
-    assert_eq!(rt; parts[1], Part::default());
-    assert_eq!(rt; parts[2], Part::default());
+    assert_eq!(rt; parts[0], NOTHING);
+    assert_eq!(rt; parts[1], NOTHING);
+    assert_eq!(rt; parts[2], NOTHING);
 }
 
 #[test]
