@@ -79,6 +79,10 @@ impl Number for Decimal {
         let magnitude = self.millionths.unsigned_abs();
         let mut buffer = Buffer::new();
         let ones = buffer.format(magnitude / MILLION);
+        // of a number without places no digits are made that nobody sees
+        if self.places == 0 {
+            return write_parts(minus(self.millionths).as_bytes(), ones.as_bytes(), &[], out);
+        }
         let fraction = pointed(magnitude % MILLION);
         write_parts(
             minus(self.millionths).as_bytes(),

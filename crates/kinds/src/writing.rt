@@ -60,6 +60,16 @@ pub(crate) fn write_token(token: &[u8], out: &mut [u8]) -> Option<usize>
     Some(token.len())
 }
 
+// Copies bytes over memory of their length. Most parts of a token are empty, and then nothing is called.
+fn copy_over(bytes: &[u8], out: &mut [u8])
+    requires { length bytes.now ≡ length out.old }
+    ensures { out.new ≡ bytes.now }
+{
+    if !bytes.is_empty() {
+        out.copy_from_slice(bytes);
+    }
+}
+
 // Writes a token by its three parts.
 pub(crate) fn write_parts(
     minus: &[u8],
@@ -74,8 +84,8 @@ pub(crate) fn write_parts(
     let (front, _) = out.split_at_mut_checked(length)?;
     let (first, rest) = front.split_at_mut(minus.len());
     let (second, third) = rest.split_at_mut(ones.len());
-    first.copy_from_slice(minus);
-    second.copy_from_slice(ones);
-    third.copy_from_slice(fraction);
+    copy_over(minus, first);
+    copy_over(ones, second);
+    copy_over(fraction, third);
     Some(length)
 }
