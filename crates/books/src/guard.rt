@@ -91,11 +91,13 @@ fn lowest_call(rows: &[Row], definition: usize, marks: &[bool]) -> Option<usize>
     requires { length rows.now ≤ length marks.now }
     ensures { FirstCall rows.now definition marks.now result }
 {
-    // the marks first: few rows are marked, and of the others nothing has to be read
-    marks
-        .iter()
-        .zip(rows)
-        .position(|(marked, row)| *marked && calls(*row, definition))
+    // a loop, since `zip` tests the ends of both at each turn
+    for (r, row) in rows.iter().enumerate() {
+        if marks[r] && calls(*row, definition) {
+            return Some(r);
+        }
+    }
+    None
 }
 
 // The lower of two rows that may be there.
