@@ -34,6 +34,7 @@ pub trait Sort: Sized + Copy {
     ghost comes: { Self → List (List ℕ) → List ℕ → List ℕ → Type 0 };
 
     // How many sorts there are. No slice of them: a program may work a sort out from its place.
+    // One that has them in a slice implements `ListedSort`.
     fn count() -> usize
         ensures { (result ≡ length sorts) × (result < 256) };
 

@@ -16,3 +16,9 @@ pub trait Dialect {
     fn is_match(&self, pattern: usize, text: &[u8]) -> bool
         ensures { result ≡ answer (count self.now) (holds self.now) pattern text.now };
 }
+
+// A dialect of which a proof knows without a call that its count fits two bytes. It is no law of every dialect: a law
+// is owed at every number, also one that does not fit the field that holds the count, unless the type itself says so.
+pub trait BoundedDialect: Dialect {
+    ghost few: { (d : Self) → Self.Dialect.count d ≤ 65535 };
+}

@@ -1,8 +1,9 @@
 // Patterns by number, as they stand in a file.
 ghost use Rattle.std.specs.Prelude.{◌≡◌};
 ghost use Rattle.dialects.specs.Dialects.{part_count, listed_holds, Finds};
+ghost use Rattle.std.proofs.Common.{rules};
 
-use crate::dialect::Dialect;
+use crate::dialect::{BoundedDialect, Dialect};
 use crate::limits::MOST_PATTERNS;
 use crate::syntax::Syntax;
 use fields::part::Part;
@@ -58,4 +59,8 @@ impl<'a, S: Syntax> Dialect for PatternList<'a, S> {
         self.get(pattern)
             .is_some_and(|bytes| S::matches(bytes, text))
     }
+}
+
+impl<'a, S: Syntax> BoundedDialect for PatternList<'a, S> {
+    ghost few = { λ d. Prim.search rules };
 }

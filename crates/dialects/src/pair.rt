@@ -1,7 +1,8 @@
 // Two dialects side by side.
 ghost use Rattle.dialects.specs.Dialects.{pair_count, pair_holds};
+ghost use Rattle.std.proofs.Common.{rules};
 
-use crate::dialect::Dialect;
+use crate::dialect::{BoundedDialect, Dialect};
 use crate::limits::MOST_PATTERNS;
 
 // The first dialect's patterns keep their numbers, the second's follow them.
@@ -30,4 +31,8 @@ impl<F: Dialect, S: Dialect> Dialect for Pair<F, S> {
         }
         self.second.is_match(pattern - before, text)
     }
+}
+
+impl<F: Dialect, S: Dialect> BoundedDialect for Pair<F, S> {
+    ghost few = { λ d. Prim.search rules };
 }

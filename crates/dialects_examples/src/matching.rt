@@ -1,5 +1,7 @@
 // What names, masks and pairs match.
-use dialects::dialect::Dialect;
+ghost use Rattle.std.specs.Prelude.{◌≤◌};
+
+use dialects::dialect::{BoundedDialect, Dialect};
 use dialects::masks::Masks;
 use dialects::names::Names;
 use dialects::pair::Pair;
@@ -10,6 +12,11 @@ static WHOLE: [Part; 1] = [Part {
     start: 0,
     length: 255,
 }];
+
+// What a proof knows of a dialect that it doesn't ask: its count fits two bytes.
+fn knows_bound<D: BoundedDialect>(_dialect: &D)
+    ensures { D.Dialect.count _dialect.now ≤ 65535 }
+{}
 
 // Whether a mask matches a text.
 fn fits(mask: &[u8], text: &[u8]) -> bool {
@@ -81,6 +88,7 @@ fn a_pile_of_pairs_is_a_dialect(rt: HostRuntime) {
         first: inner,
         second: names,
     };
+    knows_bound(&pile);
     assert_eq!(rt; pile.pattern_count(), 3);
     assert!(rt; pile.is_match(2, b"Ulm"));
     assert!(rt; !pile.is_match(3, b"Ulm"));
